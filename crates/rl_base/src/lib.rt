@@ -1,0 +1,10 @@
+//! Stamps, record words, epochs, refusals and the lists that all crates speak of.
+#![tactic(auto)]
+
+pub mod bound;
+pub mod epoch;
+pub mod list;
+pub mod memory;
+pub mod refusal;
+pub mod stamp;
+pub mod word;

@@ -1,0 +1,19 @@
+//! The want of memory.
+
+use std::alloc::{AllocError, AllocFailed};
+
+/// There was no memory left. It is merged with no other refusal.
+#[derive(Clone, Copy, Debug, PartialEq, Eq)]
+pub struct Memory;
+
+impl From<AllocError> for Memory {
+    fn from(_e: AllocError) -> Memory {
+        Memory
+    }
+}
+
+impl<T: Drop> From<AllocFailed<T>> for Memory {
+    fn from(_e: AllocFailed<T>) -> Memory {
+        Memory
+    }
+}
