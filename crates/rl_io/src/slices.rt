@@ -1,0 +1,20 @@
+//! Parts of slices.
+
+ghost use Rattle.std.specs.Prelude.{◌≡◌, ◌≤◌, length, take, drop};
+
+/// The bytes from a place on.
+pub fn rest_from(bytes: &[u8], at: usize) -> &[u8]
+    requires { at ≤ length bytes.now }
+    ensures { result.now ≡ drop at bytes.now }
+{
+    &bytes[at..]
+}
+
+/// Puts the first bytes at the front of a buffer.
+pub fn copy_front(buf: &mut [u8], bytes: &[u8], count: usize)
+    requires fits { count ≤ length buf.old }
+    requires there { count ≤ length bytes.now }
+    ensures { take count buf.new ≡ take count bytes.now }
+{
+    buf[..count].copy_from_slice(&bytes[..count]);
+}
