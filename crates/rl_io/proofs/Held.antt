@@ -1,5 +1,6 @@
 -- What a sink holds after one more piece, and what a source has left.
 use Rattle.std.proofs.Common.{◌≡◌, ℕ, ◌+◌, List, ◌++◌, take, drop, Option, None, Some, refl, ap, sym, ◌∙◌, take-add, append_assoc, take-append-drop}
+use Rattle.std.proofs.lemmas.List.{drop-drop}
 use Rattle.std.specs.Io.KnownBytes.{append_known}
 
 -- a front of what is still to go makes the front that has gone longer
@@ -7,3 +8,7 @@ pub held_more : (held : Option (List ℕ)) (bytes : List ℕ) (at n : ℕ) → a
 held_more None bytes at n = refl
 held_more (Some held) bytes at n =
     ap Some (append_assoc held (take at bytes) (take n (drop at bytes)) ∙ ap (λ more. held ++ more) (sym (take-add at n bytes)))
+
+-- the bytes from one place on are the next n and those after them
+pub rest_parts : (bytes : List ℕ) (at n : ℕ) → drop at bytes ≡ take n (drop at bytes) ++ drop (at + n) bytes
+rest_parts bytes at n = rw (← drop-drop n at bytes) (sym (take-append-drop n (drop at bytes)))

@@ -1,7 +1,8 @@
 //! A sink in memory, whose calls are short and fail as asked.
 
-ghost use Rattle.std.specs.Prelude.{◌≡◌, ◌↔◌, ◌<◌, ◌≤◌, ◌-◌, ◌×◌, ◌⊎◌, [], ◌++◌, length, take, min, Contains, IfOk, IsErr, OnErr};
-ghost use Rattle.rl_io.specs.Faults.{one_more};
+ghost use Rattle.std.specs.Prelude.{◌≡◌, ◌≢◌, ◌↔◌, ◌<◌, ◌≤◌, ◌-◌, ◌⊎◌, [], ◌++◌, length, take, min, Contains, Ok, Some, IfOk, IsErr, OnErr};
+ghost use Rattle.std.specs.Io.KnownBytes.{append_known};
+ghost use Rattle.rl_io.specs.Faults.{one_more, Rose};
 ghost use Rattle.rl_io.specs.Memory.{SinkState};
 
 use crate::sink::Sink;
@@ -67,6 +68,14 @@ impl Sink for MemSink {
 
     /// Takes the least of the piece's length, `chunk` and the room left.
     fn write(&mut self, piece: &[u8]) -> Result<usize, Failed>
+        ensures within { IfOk result (λ n. n ≤ length piece.now) }
+        ensures some { 0 < length piece.now → result ≢ Ok 0 }
+        ensures taken { IfOk result (λ n. Some self.new.held ≡ append_known (Some self.old.held) (take n piece.now)) }
+        ensures kept { OnErr result (Some self.new.held ≡ Some self.old.held) }
+        ensures fault { OnErr result (Rose self.old.faults self.new.faults) }
+        ensures counted { self.old.faults ≤ self.new.faults }
+
+        // beyond what every sink says
         ensures fails { IsErr result ↔ (Contains self.old.fails (one_more self.old.calls) ⊎ (self.old.room ≡ 0)) }
         ensures count { IfOk result (λ n. n ≡ min (min (length piece.now) self.old.chunk) self.old.room) }
         ensures took { IfOk result (λ n. self.new ≡ record self.old { held = self.old.held ++ take n piece.now; room = self.old.room - n; calls = one_more self.old.calls }) }

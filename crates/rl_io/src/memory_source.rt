@@ -1,6 +1,6 @@
 //! A source in memory, whose calls are short and fail as asked.
 
-ghost use Rattle.std.specs.Prelude.{◌≡◌, ◌↔◌, ◌<◌, ◌≤◌, ◌×◌, length, take, drop, min, Contains, Ok, Some, IfSome, IfOk, IsErr, OnErr};
+ghost use Rattle.std.specs.Prelude.{◌≡◌, ◌↔◌, ◌<◌, ◌≤◌, length, take, drop, [], min, Contains, Ok, Some, IfOk, IsErr, OnErr};
 ghost use Rattle.std.specs.Io.KnownBytes.{prepend_known};
 ghost use Rattle.rl_io.specs.Faults.{one_more, Rose};
 ghost use Rattle.rl_io.specs.Memory.{SourceState};
@@ -59,9 +59,16 @@ impl Source for MemSource {
 
     /// Gives the least of what is left, `chunk` and the buffer's length.
     fn read(&mut self, buf: &mut [u8]) -> Result<usize, Failed>
+        ensures within { IfOk result (λ n. n ≤ length buf.new) }
+        ensures given { IfOk result (λ n. Some self.old.left ≡ prepend_known (take n buf.new) (Some self.new.left)) }
+        ensures end { result ≡ Ok 0 → 0 < length buf.new → self.old.left ≡ [] }
+        ensures kept { OnErr result (Some self.new.left ≡ Some self.old.left) }
+        ensures fault { OnErr result (Rose self.old.faults self.new.faults) }
+        ensures counted { self.old.faults ≤ self.new.faults }
+
+        // beyond what every source says
         ensures fails { IsErr result ↔ Contains self.old.fails (one_more self.old.calls) }
         ensures count { IfOk result (λ n. n ≡ min (min (length self.old.left) self.old.chunk) (length buf.new)) }
-        ensures bytes { IfOk result (λ n. take n buf.new ≡ take n self.old.left) }
         ensures gave { IfOk result (λ n. self.new ≡ record self.old { left = drop n self.old.left; calls = one_more self.old.calls }) }
         ensures failed { OnErr result (self.new ≡ record self.old { calls = one_more self.old.calls; faults = one_more self.old.faults }) }
     {

@@ -1,0 +1,13 @@
+use Rattle.std.proofs.Common.{arith, length-drop, ap, length}
+use Rattle.rl_io.proofs.Held.{held_more}
+use Rattle.rl_io.proofs.sink.write_whole.Goals as goal
+
+pub loop-at-preserved : goal.loop-at-preserved
+loop-at-preserved g c =
+    let within = c.in-Ok.ensures.within in
+    let rest = ap length c.rest_from.ensures in
+    record {
+      within = grind (arith, length-drop);
+      counted = omega (arith, c.write.ensures.counted);
+      written = rw (c.in-Ok.ensures.taken, c.loop-at.invariant.written, c.rest_from.ensures) (held_more _ c.args.bytes.now c.loop-at.at c.in-Ok.count);
+    }
