@@ -1,0 +1,51 @@
+-- Tables as they were declared.
+use Rattle.std.specs.Prelude.{◌≡◌, ℕ, ◌+◌, ◌<◌, ◌≤◌, List, [], ◌∷◌, Option, length, map, slice_get, sum_by, true, All, String}
+use Rattle.std.specs.Option.{option_map_or}
+use Rattle.std.specs.Str.{bytes_eq}
+use Rattle.std.specs.Global.{Global}
+use Rattle.std.specs.String.{string_bytes}
+use Rattle.std.specs.List.{position_from}
+use Rattle.rl_value.specs.Names.{is_name}
+use Rattle.rl_value.specs.declared.schema.Shape.{Shape}
+
+-- a table: its name, how many keys it has, and how many columns each of its rows
+pub record Table : Type 0 where
+  pub name : List ℕ
+  pub size : ℕ
+  pub columns : ℕ
+
+-- the name, the number of keys and the number of columns of the table of a number
+abbrev pub name_of : List Table → ℕ → List ℕ
+name_of tables t = option_map_or (λ table. table.name) (slice_get tables t) []
+
+abbrev pub size_of : List Table → ℕ → ℕ
+size_of tables t = option_map_or (λ table. table.size) (slice_get tables t) 0
+
+abbrev pub columns_of : List Table → ℕ → ℕ
+columns_of tables t = option_map_or (λ table. table.columns) (slice_get tables t) 0
+
+-- the number of the table of a name
+abbrev pub table_named : List ℕ → List Table → Option ℕ
+table_named name tables = position_from (λ t. bytes_eq name t.name) 0 tables
+
+-- the records of all tables: one for each key
+abbrev pub record_count : List Table → ℕ
+record_count tables = sum_by (λ t. t.size) tables
+
+-- a table keeps the limits of one
+pub record IsTable (t : Table) : Type 0 where
+  pub named : is_name t.name ≡ true
+  pub some_keys : 1 ≤ t.size
+  pub few_keys : t.size ≤ 65536
+  pub some_columns : 1 ≤ t.columns
+  pub few_columns : t.columns ≤ 4
+
+-- the tables keep the limits of each and of all together
+pub record IsSchema (tables : List Table) : Type 0 where
+  pub few : length tables ≤ 16
+  pub records : record_count tables ≤ 65536
+  pub each : All IsTable tables
+
+-- the tables of entries that are kept under their names
+abbrev pub tables_of : List (String Global × Shape) → List Table
+tables_of entries = map (λ e. record { name = string_bytes e.0; size = e.1.size; columns = e.1.columns }) entries
