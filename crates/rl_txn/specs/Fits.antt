@@ -1,0 +1,37 @@
+-- What a transaction may name: tables and columns that are there, registers, and counts in range.
+use Rattle.std.specs.Prelude.{◌≡◌, ℕ, ◌+◌, ◌<◌, ◌≤◌, List, length, All, sum_by}
+use Rattle.rl_value.specs.Tables.{Table, columns_of}
+use Rattle.rl_txn.specs.declared.op.Operand.{Operand}
+use Rattle.rl_txn.specs.declared.op.Operand.TheVariants.{Reg, Num}
+use Rattle.rl_txn.specs.declared.op.Op.{Op}
+use Rattle.rl_txn.specs.declared.op.Op.TheVariants.{Set, Add, Sub, Mul, Get, Has, Put, Del, Scan, Need, Skip, Out}
+
+-- a register is one of 16
+abbrev pub OperandFits : Operand → Type 0
+OperandFits (Reg r) = r < 16
+OperandFits (Num n) = Unit {0}
+
+abbrev pub OpFits : List Table → Op → Type 0
+OpFits tables (Set d a) = (d < 16) × OperandFits a
+OpFits tables (Add d a b) = (d < 16) × OperandFits a × OperandFits b
+OpFits tables (Sub d a b) = (d < 16) × OperandFits a × OperandFits b
+OpFits tables (Mul d a b) = (d < 16) × OperandFits a × OperandFits b
+OpFits tables (Get t k c d) = (t < length tables) × OperandFits k × (c < columns_of tables t) × (d < 16)
+OpFits tables (Has t k d) = (t < length tables) × OperandFits k × (d < 16)
+OpFits tables (Put t k values) = (t < length tables) × OperandFits k × All OperandFits values × (1 ≤ length values) × (length values ≤ 4) × (length values ≡ columns_of tables t)
+OpFits tables (Del t k) = (t < length tables) × OperandFits k
+OpFits tables (Scan t k n c d) = (t < length tables) × OperandFits k × (1 ≤ n) × (n ≤ 256) × (c < columns_of tables t) × (d < 16)
+OpFits tables (Need a rel b) = OperandFits a × OperandFits b
+OpFits tables (Skip a rel b n) = OperandFits a × OperandFits b × (1 ≤ n) × (n ≤ 64)
+OpFits tables (Out a) = OperandFits a
+
+-- a transaction has at most 64 ops, each of which fits
+pub record TxnFits (tables : List Table) (txn : List Op) : Type 0 where
+  pub each : All (OpFits tables) txn
+  pub few : length txn ≤ 64
+
+-- up to 16 workers have at most 8,192 requests together, each of which fits
+pub record ListsFit (tables : List Table) (lists : List (List (List Op))) : Type 0 where
+  pub each : All (All (TxnFits tables)) lists
+  pub workers : length lists ≤ 16
+  pub requests : sum_by length lists ≤ 8192
