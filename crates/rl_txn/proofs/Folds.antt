@@ -1,5 +1,5 @@
 -- One more step of what is done over a list or a range.
-use Rattle.std.proofs.Common.{◌≡◌, ℕ, ◌+◌, ◌-◌, ◌*◌, ◌/◌, ◌%◌, ◌^◌, ◌<◌, List, [], ◌∷◌, ◌++◌, length, get_or, take, refl, ap, sym, ◌∙◌, sum_by, zero, suc, add-one, arith}
+use Rattle.std.proofs.Common.{◌≡◌, ℕ, ◌+◌, ◌-◌, ◌*◌, ◌/◌, ◌%◌, ◌^◌, ◌<◌, ◌≤◌, List, [], ◌∷◌, ◌++◌, length, get_or, take, refl, ap, sym, ◌∙◌, sum_by, zero, suc, arith}
 use Rattle.std.specs.List.{range_with_len}
 use Rattle.std.proofs.lemmas.List.{take_more}
 use Rattle.std.proofs.lemmas.Nat.{div-add-mod'}
@@ -21,12 +21,17 @@ sum_mod a b m =
     let whole : a % m + b + a / m * m ≡ a + b = omega arith in
     sym (add-mul-mod_self_right (a % m + b) (a / m) m) ∙ ap (λ x. x % m) whole
 
--- the sum of one more row
-pub scan_more : (rows : Rows) (written : Overlay) (t k n c sum : ℕ) → sum ≡ scan_sum rows written t k n c → (sum + column_of (row_seen rows written t (k + n)) c) % 2 ^ 64 ≡ scan_sum rows written t k (n + 1) c
-scan_more rows written t k n c sum is =
+-- the sum over the keys from one up to another, and one more row
+pub scan_more : (rows : Rows) (written : Overlay) (t from k c sum : ℕ) → from ≤ k → sum ≡ scan_sum rows written t from (k - from) c
+    → (sum + column_of (row_seen rows written t k) c) % 2 ^ 64 ≡ scan_sum rows written t from (k + 1 - from) c
+scan_more rows written t from k c sum above is =
     let f : ℕ → ℕ = λ key. column_of (row_seen rows written t key) c in
-    let more : sum_by f (range_with_len k (n + 1)) ≡ sum_by f (range_with_len k n) + f (k + n) = rw add-one (ap (sum_by f) (range_push k n) ∙ sum_by_push f (range_with_len k n) (k + n)) in
-    ap (λ s. (s + f (k + n)) % 2 ^ 64) is ∙ sum_mod (sum_by f (range_with_len k n)) (f (k + n)) (2 ^ 64) ∙ sym (ap (λ s. s % 2 ^ 64) more)
+    let n = k - from in
+    let one_more : k + 1 - from ≡ suc n = omega arith in
+    let last : from + n ≡ k = omega arith in
+    let more : sum_by f (range_with_len from (k + 1 - from)) ≡ sum_by f (range_with_len from n) + f k =
+        ap (λ m. sum_by f (range_with_len from m)) one_more ∙ ap (sum_by f) (range_push from n) ∙ sum_by_push f (range_with_len from n) (from + n) ∙ ap (λ key. sum_by f (range_with_len from n) + f key) last in
+    ap (λ s. (s + f k) % 2 ^ 64) is ∙ sum_mod (sum_by f (range_with_len from n)) (f k) (2 ^ 64) ∙ sym (ap (λ s. s % 2 ^ 64) more)
 
 pub after_writes-append : (rows : Rows) (xs ys : List Write) → after_writes rows (xs ++ ys) ≡ after_writes (after_writes rows xs) ys
 after_writes-append rows [] ys = refl

@@ -1,7 +1,12 @@
-use Rattle.std.proofs.Common.{◌≡◌, ◌+◌, ◌-◌, arith, ap, ◌∙◌, sym}
-use Rattle.rl_txn.specs.Run.{scan_sum}
+use Rattle.std.proofs.Common.{◌≡◌, ◌+◌, ◌-◌, ◌%◌, ◌^◌, ◌≤◌, arith, ap, ◌∙◌}
 use Rattle.rl_txn.proofs.Folds.{scan_more}
 use Rattle.rl_txn.proofs.progress.Progress.sum.Goals as goal
 
 pub loop-k-preserved : goal.loop-k-preserved
-loop-k-preserved c = let e = c.column-sum.ensures in let i = c.loop-k.invariant in ?
+loop-k-preserved c =
+    let l = c.loop-k in
+    record {
+      from = omega arith;
+      sum = ap (λ x. (l.sum + x) % 2 ^ 64) c.column-sum.ensures
+          ∙ scan_more c.args.rows.now c.args.self.now.written c.args.table c.args.key l.k c.args.column l.sum l.invariant.from l.invariant.sum;
+    }
