@@ -6,4 +6,5 @@ pub mod item;
 pub mod op;
 pub mod progress;
 pub mod run;
+pub mod serial;
 pub mod write;
