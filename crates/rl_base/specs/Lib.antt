@@ -1,3 +1,4 @@
 pub mod Epochs
+pub mod Lists
 pub mod Stamps
 pub mod Words

@@ -3,6 +3,7 @@
 
 pub mod bound;
 pub mod epoch;
+pub mod limit;
 pub mod list;
 pub mod memory;
 pub mod refusal;

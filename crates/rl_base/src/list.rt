@@ -1,10 +1,12 @@
 //! A list, as contracts see it.
 
-ghost use Rattle.std.specs.Prelude.{◌≡◌, ◌<◌, [], ◌∷◌, ◌++◌, length, slice_get, Some, option_to_list, OnOk, OnErr, IfOk, IsNone, IsTrue, Contains, ◌↔◌};
+ghost use Rattle.std.specs.Prelude.{◌≡◌, ◌<◌, [], ◌∷◌, ◌++◌, length, slice_get, slice_set, Some, option_to_list, OnOk, OnErr, IfOk, IsNone, IsTrue, Contains, ◌↔◌};
+ghost use Rattle.rl_base.specs.Lists.{with_last};
 
 use crate::memory::Memory;
 use std::alloc::Global;
 use std::marker::Model;
+use std::mem;
 
 /// A growing list of `T`.
 #[derive(Debug, Drop)]
@@ -101,11 +103,33 @@ impl<T: Drop> Seq<T> {
         self.items.pop()
     }
 
+    /// Puts another element in the place of one, and answers that one.
+    pub fn replace(&mut self, i: usize, x: T) -> T
+        requires { i < length self.old }
+        ensures set { self.new ≡ slice_set self.old i x }
+        ensures old { slice_get self.old i ≡ Some result }
+    {
+        mem::replace(&mut self.items[i], x)
+    }
+
     /// Its elements, lent.
     pub fn as_slice(&self) -> &[T]
         ensures { result.now ≡ self.now }
     {
         self.items.as_slice()
+    }
+}
+
+impl<T: Drop> Seq<Seq<T>> {
+    /// Appends an element to one of the lists. After `Memory` they are unchanged.
+    pub fn push_at(&mut self, i: usize, x: T) -> Result<(), Memory>
+        requires { i < length self.old }
+        ensures ok { OnOk result (self.new ≡ with_last self.old i x) }
+        ensures err { OnErr result (self.new ≡ self.old) }
+    {
+        let list = &mut self.items[i];
+        list.push(x)?;
+        Ok(())
     }
 }
 

@@ -1,6 +1,6 @@
 //! The tables of a store.
 
-ghost use Rattle.std.specs.Prelude.{◌≡◌, ◌<◌, ◌≤◌, ◌∷◌, [], ◌++◌, length, None, Err, IfSome, IfNone, IfOk, OnOk, OnErr, IsOkUnless, true};
+ghost use Rattle.std.specs.Prelude.{◌≡◌, ◌<◌, ◌≤◌, ◌∷◌, [], ◌++◌, length, ◌⊎◌, None, Some, Err, IfSome, IfOk, IfErr, OnOk, OnErr, true};
 ghost use Rattle.rl_value.specs.Names.{is_name};
 ghost use Rattle.rl_value.specs.Declare.{refusal};
 ghost use Rattle.rl_value.specs.Tables.{IsTable, name_of, size_of, columns_of, table_named, record_count, IsSchema};
@@ -100,7 +100,7 @@ impl Schema {
         ensures number { IfOk result (λ t. t ≡ length self.old) }
         ensures declared { OnOk result (self.new ≡ self.old ++ record { name = name.now; size = size; columns = columns } ∷ []) }
         ensures refused { IfSome (refusal name.now size self.old) (λ e. result ≡ Err e) }
-        ensures else_memory { IfNone (refusal name.now size self.old) (IsOkUnless result DeclareError.Memory) }
+        ensures why { IfErr result (λ e. (e ≡ DeclareError.Memory) ⊎ (refusal name.now size self.old ≡ Some e)) }
         ensures unchanged { OnErr result (self.new ≡ self.old) }
     {
         match self.refusal(name, size) {

@@ -1,0 +1,4 @@
+pub mod FitsLemmas
+pub mod Lines
+pub mod Numbers
+pub mod Printable

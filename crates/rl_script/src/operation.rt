@@ -1,0 +1,198 @@
+//! The lines of a transaction.
+
+ghost use Rattle.std.specs.Prelude.{◌≡◌, ◌<◌, ◌≤◌, List, [], All, MatchResult, Ok, IfOk, length, map};
+ghost use Rattle.rl_value.specs.Tables.{Table, columns_of};
+ghost use Rattle.rl_txn.specs.Fits.{OperandFits, OpFits};
+ghost use Rattle.rl_script.specs.Operations.{known, table_for, operands_onto, set_of, add_of, sub_of, get_of, put_of, need_of, out_of, read_op};
+ghost use Rattle.rl_script.specs.Answers.{as_problem, Fails};
+
+use crate::fault::{Kind, LineError};
+use crate::line::OpWord;
+use crate::word::{operand, register, relation, within};
+use rl_txn::op::{Op, Operands};
+use rl_value::schema::Schema;
+use std::alloc::Global;
+
+/// The number of a table that is declared.
+fn known(schema: &Schema, name: &str) -> Result<u32, Kind>
+    ensures known { result ≡ known schema.now name.now }
+    ensures there { IfOk result (λ t. t < length schema.now) }
+{
+    match schema.find(name) {
+        Some(t) => Ok(t),
+        None => Err(Kind::UnknownTable),
+    }
+}
+
+/// The table of a line that gives a whole row of some columns.
+pub fn table_for(schema: &Schema, name: &str, count: usize) -> Result<u32, Kind>
+    ensures table { result ≡ table_for schema.now name.now count }
+    ensures there { IfOk result (λ t. t < length schema.now) }
+    ensures columns { IfOk result (λ t. count ≡ columns_of schema.now t) }
+    ensures some { IfOk result (λ _. 1 ≤ count) }
+    ensures few { IfOk result (λ _. count ≤ 4) }
+{
+    match schema.find(name) {
+        Some(t) if count == schema.columns(t) as usize => Ok(t),
+        None if count >= 1 && count <= 4 => Err(Kind::UnknownTable),
+        _ => Err(Kind::Count),
+    }
+}
+
+/// The operands that some words are.
+#[tactic(auto, unfolding(crate::specs::Operations::operands_onto))]
+fn operands(alloc: Global, words: &[&str]) -> Result<Operands, LineError>
+    ensures operands { MatchResult result
+        (λ operands. operands_onto [] (map (λ w. w.now) words.now) ≡ Ok operands)
+        (λ e. Fails e (as_problem (operands_onto [] (map (λ w. w.now) words.now)))) }
+    ensures count { IfOk result (λ operands. length operands ≡ length words.now) }
+    ensures fit { IfOk result (λ operands. All OperandFits operands) }
+{
+    let mut operands = Operands::new(alloc);
+    for word in words {
+        match operand(word) {
+            Ok(a) => operands.push(a)?,
+            Err(kind) => return Err(kind.into()),
+        }
+    }
+    Ok(operands)
+}
+
+/// `set D A`
+#[tactic(auto, unfolding(crate::specs::Operations::set_of))]
+fn set(d: &str, a: &str) -> Result<Op, Kind>
+    ensures op { result ≡ set_of d.now a.now }
+    ensures fits { (tables : List Table) → IfOk result (λ op. OpFits tables op) }
+{
+    let d = register(d)?;
+    let a = operand(a)?;
+    Ok(Op::Set { d, a })
+}
+
+/// `add D A B`
+#[tactic(auto, unfolding(crate::specs::Operations::add_of))]
+fn add(d: &str, a: &str, b: &str) -> Result<Op, Kind>
+    ensures op { result ≡ add_of d.now a.now b.now }
+    ensures fits { (tables : List Table) → IfOk result (λ op. OpFits tables op) }
+{
+    let d = register(d)?;
+    let a = operand(a)?;
+    let b = operand(b)?;
+    Ok(Op::Add { d, a, b })
+}
+
+/// `sub D A B`
+#[tactic(auto, unfolding(crate::specs::Operations::sub_of))]
+fn sub(d: &str, a: &str, b: &str) -> Result<Op, Kind>
+    ensures op { result ≡ sub_of d.now a.now b.now }
+    ensures fits { (tables : List Table) → IfOk result (λ op. OpFits tables op) }
+{
+    let d = register(d)?;
+    let a = operand(a)?;
+    let b = operand(b)?;
+    Ok(Op::Sub { d, a, b })
+}
+
+/// `get T K C D`
+#[tactic(auto, unfolding(crate::specs::Operations::get_of))]
+fn get(schema: &Schema, table: &str, key: &str, column: &str, d: &str) -> Result<Op, Kind>
+    ensures op { result ≡ get_of schema.now table.now key.now column.now d.now }
+    ensures fits { IfOk result (λ op. OpFits schema.now op) }
+{
+    let table = known(schema, table)?;
+    let key = operand(key)?;
+    let column = within(0, schema.columns(table) - 1, column)?;
+    let d = register(d)?;
+    Ok(Op::Get {
+        table,
+        key,
+        column,
+        d,
+    })
+}
+
+/// `put T K A0` up to the last column
+#[tactic(auto, unfolding(crate::specs::Operations::put_of))]
+fn put(
+    alloc: Global,
+    schema: &Schema,
+    table: &str,
+    key: &str,
+    values: &[&str],
+) -> Result<Op, LineError>
+    ensures op { MatchResult result
+        (λ op. put_of schema.now table.now key.now (map (λ w. w.now) values.now) ≡ Ok op)
+        (λ e. Fails e (as_problem (put_of schema.now table.now key.now (map (λ w. w.now) values.now)))) }
+    ensures fits { IfOk result (λ op. OpFits schema.now op) }
+{
+    let table = table_for(schema, table, values.len())?;
+    let key = operand(key)?;
+    let values = operands(alloc, values)?;
+    Ok(Op::Put { table, key, values })
+}
+
+/// `need A REL B`
+#[tactic(auto, unfolding(crate::specs::Operations::need_of))]
+fn need(a: &str, rel: &str, b: &str) -> Result<Op, Kind>
+    ensures op { result ≡ need_of a.now rel.now b.now }
+    ensures fits { (tables : List Table) → IfOk result (λ op. OpFits tables op) }
+{
+    let a = operand(a)?;
+    let rel = relation(rel)?;
+    let b = operand(b)?;
+    Ok(Op::Need { a, rel, b })
+}
+
+/// `out A`
+#[tactic(auto, unfolding(crate::specs::Operations::out_of))]
+fn out(a: &str) -> Result<Op, Kind>
+    ensures op { result ≡ out_of a.now }
+    ensures fits { (tables : List Table) → IfOk result (λ op. OpFits tables op) }
+{
+    let a = operand(a)?;
+    Ok(Op::Out { a })
+}
+
+/// The op of the line that begins with an op's word. `words` are those after it.
+pub fn read_op(
+    alloc: Global,
+    schema: &Schema,
+    word: OpWord,
+    words: &[&str],
+) -> Result<Op, LineError>
+    ensures op { MatchResult result
+        (λ op. read_op schema.now word (map (λ w. w.now) words.now) ≡ Ok op)
+        (λ e. Fails e (as_problem (read_op schema.now word (map (λ w. w.now) words.now)))) }
+    ensures fits { IfOk result (λ op. OpFits schema.now op) }
+{
+    match word {
+        OpWord::Set => match words {
+            [d, a] => Ok(set(d, a)?),
+            _ => Err(Kind::Count.into()),
+        },
+        OpWord::Add => match words {
+            [d, a, b] => Ok(add(d, a, b)?),
+            _ => Err(Kind::Count.into()),
+        },
+        OpWord::Sub => match words {
+            [d, a, b] => Ok(sub(d, a, b)?),
+            _ => Err(Kind::Count.into()),
+        },
+        OpWord::Get => match words {
+            [table, key, column, d] => Ok(get(schema, table, key, column, d)?),
+            _ => Err(Kind::Count.into()),
+        },
+        OpWord::Put => match words {
+            [table, key, values @ ..] => put(alloc, schema, table, key, values),
+            _ => Err(Kind::Count.into()),
+        },
+        OpWord::Need => match words {
+            [a, rel, b] => Ok(need(a, rel, b)?),
+            _ => Err(Kind::Count.into()),
+        },
+        OpWord::Out => match words {
+            [a] => Ok(out(a)?),
+            _ => Err(Kind::Count.into()),
+        },
+    }
+}
