@@ -1,0 +1,4 @@
+pub mod Command
+pub mod Serial
+pub mod Serve
+pub mod Texts

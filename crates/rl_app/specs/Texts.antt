@@ -1,0 +1,42 @@
+-- What is printed.
+use Rattle.std.specs.Prelude.{ℕ, ◌+◌, List, [], ◌∷◌, ◌++◌, length, codes, Option, Some, None}
+use Rattle.std.specs.List.{flat_map, range_with_len}
+use Rattle.std.specs.Fmt.{decimal}
+use Rattle.std.specs.FinMap as finite
+use Rattle.rl_value.specs.Rows.{Rows, place_cmp}
+use Rattle.rl_value.specs.Tables.{Table, name_of, size_of}
+use Rattle.rl_txn.specs.declared.write.End.{End}
+use Rattle.rl_txn.specs.declared.write.End.TheVariants.{Done, Declined}
+use Rattle.rl_txn.specs.declared.item.Item.{Item}
+
+abbrev pub line : List ℕ → List ℕ
+line text = text ++ 10 ∷ []
+
+-- a number after a space
+abbrev pub word : ℕ → List ℕ
+word n = 32 ∷ decimal n
+
+abbrev pub end_text : End → List ℕ
+end_text Done = codes " done"
+end_text (Declined op) = codes " declined" ++ word op
+
+-- `item E S W I done OUTS` or `item E S W I declined OP OUTS`
+unfoldable pub item_text : Item → List ℕ
+item_text item =
+    line (codes "item" ++ word item.stamp.epoch ++ word item.stamp.seq ++ word item.worker ++ word item.index ++ end_text item.reply.end ++ flat_map word item.reply.outs)
+
+-- `row T K COLUMNS`, where the row is present
+unfoldable pub row_text : List ℕ → ℕ → Option (List ℕ) → List ℕ
+row_text name key None = []
+row_text name key (Some row) = line (codes "row " ++ name ++ word key ++ flat_map word row)
+
+-- the rows of the table of a number
+unfoldable pub table_text : List Table → Rows → ℕ → List ℕ
+table_text tables rows t =
+    flat_map (λ key. row_text (name_of tables t) key (finite.get rows (t, key))) (range_with_len 0 (size_of tables t))
+
+-- the report of a serial run
+unfoldable pub serial_text : List Item → List Table → Rows → List ℕ
+serial_text items tables rows =
+    codes "rolis serial\n" ++ codes "items" ++ word (length items) ++ 10 ∷ [] ++ flat_map item_text items
+    ++ codes "tables\n" ++ flat_map (table_text tables rows) (range_with_len 0 (length tables))

@@ -1,0 +1,63 @@
+//! The top call: which command some words are.
+
+ghost use Rattle.std.specs.Prelude.{◌≡◌, ◌<◌, ◌⊎◌, ℕ, List, IfSome, length, true, false};
+ghost use Rattle.rl_io.specs.Faults.{Rose};
+ghost use Rattle.rl_app.specs.Command.{is_serial};
+ghost use Rattle.rl_app.specs.Serial.{Answers, Reports, Faults, status_of};
+ghost use Rattle.rl_app.specs.Serve.{input_limit, usage_line, read_fault_line, limit_line, memory_line, Means, Wrote, WroteFront};
+
+use crate::serial::serial;
+use crate::serve::{Status, deliver};
+use rl_io::sink::Sink;
+use rl_io::source::Source;
+use std::alloc::Global;
+
+/// What is written where the words are no command.
+const USAGE: &str = "usage: rolis serial, steps, sim, live, check, gen script S N W R, gen run S N W R\n";
+
+/// Does all that the program does: the one word `serial` is the command of this name, and all
+/// other words are status 2.
+///
+/// Status 0 with the report; 2 where the words are no command, and then nothing is read; 3 where
+/// the input is no script; 4 where it has more than 4,194,304 bytes; 5 where a read failed; 6
+/// where a write failed, with a front of the text written; 7 where there was no memory. At 2, 3,
+/// 4, 5 and 7 the one line of the status is written.
+pub fn rolis<S: Source, K: Sink>(
+    alloc: Global,
+    words: &[String],
+    source: &mut S,
+    sink: &mut K,
+) -> Status
+    ensures report { result.code ≡ 0 → Reports (S.left source.old) (S.left source.new) (K.held sink.old) (K.held sink.new) }
+    ensures usage { result.code ≡ 2 → is_serial words.now ≡ false }
+    ensures usage_line { result.code ≡ 2 → Wrote (K.held sink.old) (K.held sink.new) usage_line }
+    ensures fault { result.code ≡ 3 → Faults (S.left source.old) (S.left source.new) (K.held sink.old) (K.held sink.new) }
+    ensures limit { result.code ≡ 4 → IfSome (S.left source.old) (λ left. input_limit < length left) }
+    ensures limit_line { result.code ≡ 4 → Wrote (K.held sink.old) (K.held sink.new) limit_line }
+    ensures read_fault { result.code ≡ 5 → Rose (S.faults source.old) (S.faults source.new) }
+    ensures read_fault_line { result.code ≡ 5 → Wrote (K.held sink.old) (K.held sink.new) read_fault_line }
+    ensures write_fault { result.code ≡ 6 → Rose (K.faults sink.old) (K.faults sink.new) }
+    ensures front { result.code ≡ 6 → is_serial words.now ≡ true → (code : ℕ) × (text : List ℕ) × (Means Answers (S.left source.old) (S.left source.new) (Rose (S.faults source.old) (S.faults source.new)) code text × WroteFront (K.held sink.old) (K.held sink.new) text) }
+    ensures usage_front { result.code ≡ 6 → is_serial words.now ≡ false → WroteFront (K.held sink.old) (K.held sink.new) usage_line }
+    ensures memory_line { result.code ≡ 7 → Wrote (K.held sink.old) (K.held sink.new) memory_line }
+    ensures statuses { is_serial words.now ≡ true → IfSome (S.left source.old) (λ input. (result.code ≡ status_of input) ⊎ (result.code ≡ 5) ⊎ (result.code ≡ 6) ⊎ (result.code ≡ 7)) }
+    ensures other_words { is_serial words.now ≡ false → (result.code ≡ 2) ⊎ (result.code ≡ 6) }
+    ensures unread { is_serial words.now ≡ false → S.left source.new ≡ S.left source.old }
+    ensures known { (result.code ≡ 0) ⊎ (result.code ≡ 2) ⊎ (result.code ≡ 3) ⊎ (result.code ≡ 4) ⊎ (result.code ≡ 5) ⊎ (result.code ≡ 6) ⊎ (result.code ≡ 7) }
+{
+    if is_serial(words) {
+        serial(alloc, source, sink)
+    } else {
+        deliver(sink, Status { code: 2 }, USAGE.as_bytes())
+    }
+}
+
+/// Whether the words are the one word `serial`.
+fn is_serial(words: &[String]) -> bool
+    ensures { result ≡ is_serial words.now }
+{
+    match words {
+        [word] => word.as_str() == "serial",
+        _ => false,
+    }
+}

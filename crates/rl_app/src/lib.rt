@@ -1,0 +1,7 @@
+//! The commands of the program.
+#![tactic(auto)]
+
+pub mod command;
+pub mod report;
+pub mod serial;
+pub mod serve;

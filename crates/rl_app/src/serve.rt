@@ -1,0 +1,63 @@
+//! How a call is served, whatever the command.
+
+ghost use Rattle.std.specs.Prelude.{◌≡◌, ◌≤◌, IfOk};
+ghost use Rattle.std.specs.String.{string_bytes};
+ghost use Rattle.rl_io.specs.Faults.{Rose};
+ghost use Rattle.rl_app.specs.Serve.{kind_text, fault_line, Delivers};
+
+use rl_base::memory::Memory;
+use rl_io::sink::{Sink, write_whole};
+use rl_script::fault::Kind;
+use std::alloc::Global;
+
+/// How a call ended: 0 for its output, else the number of the one line that it wrote.
+#[derive(Clone, Copy, Debug, PartialEq, Eq)]
+pub struct Status {
+    pub code: u8,
+}
+
+/// The most bytes that a command reads.
+pub const INPUT_LIMIT: usize = 4194304;
+
+/// The name of a kind of fault, as it is printed.
+fn kind_name(kind: Kind) -> &'static str
+    ensures { result.now ≡ kind_text kind }
+{
+    match kind {
+        Kind::Byte => "Byte",
+        Kind::Header => "Header",
+        Kind::Word => "Word",
+        Kind::Order => "Order",
+        Kind::Count => "Count",
+        Kind::Number => "Number",
+        Kind::Range => "Range",
+        Kind::Name => "Name",
+        Kind::Duplicate => "Duplicate",
+        Kind::UnknownTable => "UnknownTable",
+        Kind::Register => "Register",
+        Kind::Relation => "Relation",
+        Kind::Unended => "Unended",
+        Kind::Later => "Later",
+    }
+}
+
+/// The line of a script's first fault.
+pub fn fault_text(alloc: Global, line: u32, kind: Kind) -> Result<String, Memory>
+    ensures { IfOk result (λ text. string_bytes text ≡ fault_line line kind) }
+{
+    let mut text = format!(in alloc; "fault line {line} ")?;
+    text.push_str(kind_name(kind))?;
+    text.push_str("\n")?;
+    Ok(text)
+}
+
+/// Writes a text, and answers its status, or 6 where a write failed.
+pub fn deliver<K: Sink>(sink: &mut K, status: Status, text: &[u8]) -> Status
+    ensures delivered { Delivers (K.held sink.old) (K.held sink.new) (Rose (K.faults sink.old) (K.faults sink.new)) status.code text.now result.code }
+    ensures counted { K.faults sink.old ≤ K.faults sink.new }
+{
+    match write_whole(sink, text) {
+        Ok(()) => status,
+        Err(_) => Status { code: 6 },
+    }
+}
