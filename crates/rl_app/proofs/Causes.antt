@@ -102,6 +102,7 @@ module _ (left_old left_new : Option (List ℕ)) (read_rose : Type 0) (held_old 
         | inl refused ↦ inr (inl refused.0)
         | inr done ↦ inl done.0
       ]
+
       from : Served left_old left_new read_rose held_old held_new write_rose result → write_rose × ((code : ℕ) × (text : List ℕ) × (Means Answers left_old left_new read_rose code text × WroteFront held_old held_new text))
       from (code, text, means, inr failed) = (failed.1, (code, text, (means, failed.2)))
       from (code, text, means, inl wrote) = elim (codes_of code text means) [
@@ -118,10 +119,13 @@ module _ (left_old left_new : Option (List ℕ)) (read_rose : Type 0) (held_old 
     where
       status_too_long : (input : List ℕ) → input_limit < length input → status_of input ≡ 4
       status_too_long input long = grind (arith, nat_tests)
+
       status_refused : (input : List ℕ) → length input ≤ input_limit → script_in input ≡ None → status_of input ≡ 3
       status_refused input small none = let short : nat_lt input_limit (length input) ≡ false = grind (arith, nat_tests) in ap (λ b. cond b 4 (cond (is_some (script_in input)) 0 3)) short ∙ ap (λ o. cond (is_some o) 0 3) none
+
       status_done : (input : List ℕ) (script : Script) → length input ≤ input_limit → script_in input ≡ Some script → status_of input ≡ 0
       status_done input script small some = let short : nat_lt input_limit (length input) ≡ false = grind (arith, nat_tests) in ap (λ b. cond b 4 (cond (is_some (script_in input)) 0 3)) short ∙ ap (λ o. cond (is_some o) 0 3) some
+
       judged : (input text : List ℕ) (code : ℕ) → result ≡ code → Means Answers (Some input) left_new read_rose code text → (result ≡ status_of input) ⊎ (result ≡ 5) ⊎ (result ≡ 6) ⊎ (result ≡ 7)
       judged input text code is (inl fault) = inr (inl (is ∙ fault.1))
       judged input text code is (inr (inl limit)) = inl (is ∙ limit.1 ∙ sym (status_too_long input limit.0))
@@ -130,6 +134,7 @@ module _ (left_old left_new : Option (List ℕ)) (read_rose : Type 0) (held_old 
         | inl refused ↦ inl (is ∙ refused.0 ∙ sym (status_refused read_input small refused.2) ∙ ap status_of (sym read.0))
         | inr done ↦ inl (is ∙ done.0 ∙ sym (status_done read_input done.1.0 small done.1.1) ∙ ap status_of (sym read.0))
       ]
+
       from : (left : Option (List ℕ)) → left_old ≡ left → Served left_old left_new read_rose held_old held_new write_rose result → IfSome left (λ input. (result ≡ status_of input) ⊎ (result ≡ 5) ⊎ (result ≡ 6) ⊎ (result ≡ 7))
       from None is served = tt
       from (Some input) is (code, text, means, inl wrote) = judged input text code wrote.0 (subst (λ (l : Option (List ℕ)). Means Answers l left_new read_rose code text) is means)
@@ -146,6 +151,7 @@ module _ (left_old left_new : Option (List ℕ)) (read_rose : Type 0) (held_old 
         | inl refused ↦ inr (inl (is ∙ refused.0))
         | inr done ↦ inl (is ∙ done.0)
       ]
+
       from : Served left_old left_new read_rose held_old held_new write_rose result → (result ≡ 0) ⊎ (result ≡ 3) ⊎ (result ≡ 4) ⊎ (result ≡ 5) ⊎ (result ≡ 6) ⊎ (result ≡ 7)
       from (code, text, means, inl wrote) = meant_one code text wrote.0 means
       from (code, text, means, inr failed) = inr (inr (inr (inr (inl failed.0))))

@@ -13,7 +13,8 @@ use rl_io::source::Source;
 use std::alloc::Global;
 
 /// What is written where the words are no command.
-const USAGE: &str = "usage: rolis serial, steps, sim, live, check, gen script S N W R, gen run S N W R\n";
+const USAGE: &str =
+    "usage: rolis serial, steps, sim, live, check, gen script S N W R, gen run S N W R\n";
 
 /// Does all that the program does: the one word `serial` is the command of this name, and all
 /// other words are status 2.

@@ -5,3 +5,5 @@ pub mod command;
 pub mod report;
 pub mod serial;
 pub mod serve;
+#[cfg(test)]
+mod tests;

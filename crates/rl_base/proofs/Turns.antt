@@ -1,9 +1,9 @@
 -- The next turn of a node.
-use Rattle.std.proofs.Common.{◌≡◌, ℕ, ◌+◌, ◌-◌, ◌*◌, ◌/◌, ◌%◌, ◌<◌, ◌≤◌, ◌⊎◌, inl, inr, arith, ap, sym, ◌∙◌}
+use Rattle.std.proofs.Common.{◌≡◌, ℕ, ◌+◌, ◌-◌, ◌*◌, ◌/◌, ◌%◌, ◌<◌, ◌≤◌, inl, inr, arith, ap, ◌∙◌}
 use Rattle.std.proofs.lemmas.Nat.{mod-mul-add, div-add-mod'}
 use Rattle.std.proofs.lemmas.Bool.{cases_lt}
 use Rattle.std.proofs.Math.Nat.{mul-le-mul_right}
-use Rattle.rl_base.specs.Epochs.{owner_of, IsNextEpoch}
+use Rattle.rl_base.specs.Epochs.{IsNextEpoch}
 
 -- the first number from `from` on that has a given remainder is less than one round away
 least_of_remainder : (from n turn k e : ℕ) → k * n + turn < from + n → from ≤ e → e % n ≡ turn → k * n + turn ≤ e

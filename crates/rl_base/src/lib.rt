@@ -8,4 +8,6 @@ pub mod list;
 pub mod memory;
 pub mod refusal;
 pub mod stamp;
+#[cfg(test)]
+mod tests;
 pub mod word;

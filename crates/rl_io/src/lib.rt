@@ -8,3 +8,5 @@ pub mod slices;
 pub mod source;
 pub mod standard_sink;
 pub mod standard_source;
+#[cfg(test)]
+mod tests;

@@ -114,3 +114,88 @@ impl Draft {
         }
     }
 }
+
+#[cfg(test)]
+mod tests {
+    use super::*;
+    use rl_base::limit::LimitName;
+    use std::test::Fail;
+
+    /// Texts after the line `rolis 1`, with the first line that is wrong and what is wrong with it.
+    const WRONG: [(&str, u32, Problem); 21] = [
+        ("table t 1 1\u{7f}", 2, Problem::Fault(Kind::Byte)),
+        ("frob", 2, Problem::Fault(Kind::Word)),
+        ("set r0 1", 2, Problem::Fault(Kind::Order)),
+        ("end", 2, Problem::Fault(Kind::Order)),
+        ("txn 1\nend\ntable t 1 1", 4, Problem::Fault(Kind::Order)),
+        ("txn 1\ntxn 1", 3, Problem::Fault(Kind::Order)),
+        ("table t 1", 2, Problem::Fault(Kind::Count)),
+        ("row t 0 1 2 3 4 5", 2, Problem::Fault(Kind::Count)),
+        ("table t 01 1", 2, Problem::Fault(Kind::Number)),
+        ("table t 65537 1", 2, Problem::Fault(Kind::Range)),
+        ("txn 2", 2, Problem::Fault(Kind::Range)),
+        ("table 1t 1 1", 2, Problem::Fault(Kind::Name)),
+        (
+            "table t 1 1\n\ntable t 1 1",
+            4,
+            Problem::Fault(Kind::Duplicate),
+        ),
+        ("row t 0 1", 2, Problem::Fault(Kind::UnknownTable)),
+        ("txn 1\nset r16 1\nend", 3, Problem::Fault(Kind::Register)),
+        (
+            "txn 1\nout 18446744073709551616",
+            3,
+            Problem::Fault(Kind::Register),
+        ),
+        ("txn 1\nneed 1 is 1", 3, Problem::Fault(Kind::Relation)),
+        (
+            "# a comment\ntxn 1\nout 1",
+            5,
+            Problem::Fault(Kind::Unended),
+        ),
+        (
+            "table t 65536 1\ntable u 1 1",
+            3,
+            Problem::Limit(LimitName::Records),
+        ),
+        (
+            "table t 2 1\nrow t 1 5\nrow t 1 6",
+            4,
+            Problem::Fault(Kind::Duplicate),
+        ),
+        (
+            "table t 2 1\ntxn 1\nget t 0 1 r0",
+            4,
+            Problem::Fault(Kind::Range),
+        ),
+    ];
+
+    #[test]
+    fn the_first_wrong_line_is_found(rt: HostRuntime) -> Result<(), Fail> {
+        for (text, line, problem) in WRONG {
+            let mut whole = String::from_str(rt.alloc(), "rolis 1\n")?;
+            whole.push_str(text)?;
+            assert!(rt; whole.len() < 1000);
+            let wrong = read(rt.alloc(), whole.as_bytes()).err();
+            assert_eq!(rt; wrong, Some(TextError::Wrong { line, problem }), "{text}");
+        }
+        for text in ["", "rolis 2", "\nrolis 1"] {
+            assert!(rt; text.len() < 1000);
+            let later = parse(rt.alloc(), text.as_bytes()).err();
+            let kind = Kind::Later;
+            assert_eq!(rt; later, Some(ParseError::Fault { line: 0, kind }), "{text}");
+        }
+        Ok(())
+    }
+
+    #[test]
+    fn a_script_is_read(rt: HostRuntime) -> Result<(), Fail> {
+        let text = b"  rolis   1\n\ntable t 2 1\n # note\nrow t 1 9\ntxn 1\nput t 0 r0\nend\n";
+        let Ok(script) = parse(rt.alloc(), text) else {
+            return Err("no script".into());
+        };
+        assert_eq!(rt; script.schema.count(), 1);
+        assert!(rt; script.rows.get(0, 1).is_some() && script.lists.len() == 1);
+        Ok(())
+    }
+}

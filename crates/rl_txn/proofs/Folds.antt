@@ -30,7 +30,7 @@ scan_more rows written t from k c sum above is =
     let one_more : k + 1 - from ≡ suc n = omega arith in
     let last : from + n ≡ k = omega arith in
     let more : sum_by f (range_with_len from (k + 1 - from)) ≡ sum_by f (range_with_len from n) + f k =
-        ap (λ m. sum_by f (range_with_len from m)) one_more ∙ ap (sum_by f) (range_push from n) ∙ sum_by_push f (range_with_len from n) (from + n) ∙ ap (λ key. sum_by f (range_with_len from n) + f key) last in
+    ap (λ m. sum_by f (range_with_len from m)) one_more ∙ ap (sum_by f) (range_push from n) ∙ sum_by_push f (range_with_len from n) (from + n) ∙ ap (λ key. sum_by f (range_with_len from n) + f key) last in
     ap (λ s. (s + f k) % 2 ^ 64) is ∙ sum_mod (sum_by f (range_with_len from n)) (f k) (2 ^ 64) ∙ sym (ap (λ s. s % 2 ^ 64) more)
 
 pub after_writes-append : (rows : Rows) (xs ys : List Write) → after_writes rows (xs ++ ys) ≡ after_writes (after_writes rows xs) ys

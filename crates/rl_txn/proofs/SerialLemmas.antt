@@ -1,5 +1,5 @@
 -- One more item after others.
-use Rattle.std.proofs.Common.{◌≢◌, get_or, append-nil, append_assoc, ◌≡◌, ℕ, ◌+◌, ◌*◌, ◌<◌, ◌≤◌, ◌^◌, ◌==◌, Bool, true, false, cond, List, [], ◌∷◌, ◌++◌, length, map, filter, take, slice_get, get_or, Option, Some, None, IsSomeAnd, refl, ap, sym, ◌∙◌, subst, arith, zero, suc, add-one, length-append, sum_by, inl, inr}
+use Rattle.std.proofs.Common.{◌≢◌, get_or, append-nil, append_assoc, ◌≡◌, ℕ, ◌+◌, ◌*◌, ◌<◌, ◌≤◌, ◌^◌, ◌==◌, Bool, true, false, cond, List, [], ◌∷◌, ◌++◌, length, map, filter, take, slice_get, get_or, Some, IsSomeAnd, refl, ap, sym, ◌∙◌, subst, arith, zero, suc, add-one, length-append, sum_by, inl, inr}
 use Rattle.std.specs.List.{range_with_len}
 use Rattle.std.specs.List.Sorted.{IsStrictlyIncreasing}
 use Rattle.std.specs.Option.{option_and_then}
@@ -13,7 +13,7 @@ use Rattle.rl_base.specs.declared.stamp.Stamp.{Stamp}
 use Rattle.rl_value.specs.Rows.{Rows}
 use Rattle.rl_value.specs.Tables.{Table}
 use Rattle.rl_txn.specs.Run.{run}
-use Rattle.rl_txn.specs.Serial.{after_writes, after, numbered, request_of, Runs, IsSerial, indexes_of, IsInLists, IsWhole, requests_from, IsListByList}
+use Rattle.rl_txn.specs.Serial.{after_writes, after, numbered, request_of, Runs, indexes_of, requests_from, IsListByList}
 use Rattle.rl_txn.specs.declared.op.Op.{Op}
 use Rattle.rl_txn.specs.declared.item.Item.{Item}
 use Rattle.rl_txn.proofs.Folds.{after-append, range_push}
@@ -91,7 +91,7 @@ next_done tables lists opening before items rows item list txn worker index so_f
     let w : item.worker ≡ suc worker = omega arith in
     let i : item.index ≡ suc index = omega arith in
     let request : request_of lists item ≡ Some txn =
-        ap (λ n. option_and_then (λ list. numbered list item.index) (numbered lists n)) w ∙ ap (option_and_then (λ list. numbered list item.index)) at ∙ ap (numbered list) i ∙ at_index in
+    ap (λ n. option_and_then (λ list. numbered list item.index) (numbered lists n)) w ∙ ap (option_and_then (λ list. numbered list item.index)) at ∙ ap (numbered list) i ∙ at_index in
     subst (λ done. AreDone tables lists opening done (items ++ item ∷ []) (after_writes rows item.writes))
     (append_assoc (requests_from 1 before) (names_upto (worker + 1) index) ((worker + 1, index + 1) ∷ []) ∙ ap (λ names. requests_from 1 before ++ names) (sym (names_push (worker + 1) index)))
     (one_done tables lists opening (requests_from 1 before ++ names_upto (worker + 1) index) items rows item txn (worker + 1) (index + 1) so_far stamp of_worker of_index request ran)
@@ -124,6 +124,7 @@ few_done tables lists opening items rows list worker index within at below so_fa
     length-requests v (l ∷ ls) =
         let parts : length (requests_from v (l ∷ ls)) ≡ length (names_upto v (length l)) + length (requests_from (v + 1) ls) = length-append (names_upto v (length l)) (requests_from (v + 1) ls) in
         parts ∙ ap (λ n. n + length (requests_from (v + 1) ls)) (length-map-range_with_len {X = ℕ × ℕ} (λ i. (v, i)) 1 (length l)) ∙ ap (λ n. length l + n) (length-requests (v + 1) ls) ∙ sym (sum_by-cons (λ l. length l) l ls)
+
     sums_upto : (ls : Requests) (w : ℕ) (l : List (List Op)) → slice_get ls w ≡ Some l → sum_by (λ l. length l) (take w ls) + length l ≤ sum_by (λ l. length l) ls
     sums_upto [] w l h = cc
     sums_upto (x ∷ ls) zero l h =
@@ -146,11 +147,14 @@ rising items is k within =
   where
     number : ℕ × ℕ → ℕ
     number p = p.0 * 2 ^ 40 + p.1
+
     first_epoch : ℕ → ℕ
     first_epoch seq = 1 * 2 ^ 40 + seq
+
     numbers : (items : List Item) → map (λ (item : Item). packed item.stamp) items ≡ map number (map stamp_of items)
     numbers [] = refl
     numbers (item ∷ items) = ap (λ xs. packed item.stamp ∷ xs) (numbers items)
+
     numbers_upto : (seqs : List ℕ) → map number (map {B = ℕ × ℕ} (λ seq. (1, seq)) seqs) ≡ map (λ seq. first_epoch seq) seqs
     numbers_upto [] = refl
     numbers_upto (seq ∷ seqs) = ap (λ xs. first_epoch seq ∷ xs) (numbers_upto seqs)
@@ -202,11 +206,11 @@ picked_all worker from (list ∷ lists) =
     let count = count_of worker (from + 1) lists in
     picked-append worker (names_upto from (length list)) (requests_from (from + 1) lists) ∙ elim (eqb_tells from worker) [
       | inl (test, same) ↦
-        let none : picked worker (requests_from (from + 1) lists) ≡ [] = picked_later worker (from + 1) lists (omega arith) in
-        let own : picked worker (names_upto from (length list)) ≡ range_with_len 1 (length list) = ap (λ w. picked worker (names_upto w (length list))) same ∙ picked_own worker 1 (length list) in
-        ap (λ xs. picked worker (names_upto from (length list)) ++ xs) none ∙ append-nil (picked worker (names_upto from (length list))) ∙ own ∙ ap (λ b. range_with_len 1 (cond b (length list) count)) (sym test)
+          let none : picked worker (requests_from (from + 1) lists) ≡ [] = picked_later worker (from + 1) lists (omega arith) in
+          let own : picked worker (names_upto from (length list)) ≡ range_with_len 1 (length list) = ap (λ w. picked worker (names_upto w (length list))) same ∙ picked_own worker 1 (length list) in
+          ap (λ xs. picked worker (names_upto from (length list)) ++ xs) none ∙ append-nil (picked worker (names_upto from (length list))) ∙ own ∙ ap (λ b. range_with_len 1 (cond b (length list) count)) (sym test)
       | inr (test, differ) ↦
-        ap (λ xs. xs ++ picked worker (requests_from (from + 1) lists)) (picked_other worker from 1 (length list) differ) ∙ picked_all worker (from + 1) lists ∙ ap (λ b. range_with_len 1 (cond b (length list) count)) (sym test)
+          ap (λ xs. xs ++ picked worker (requests_from (from + 1) lists)) (picked_other worker from 1 (length list) differ) ∙ picked_all worker (from + 1) lists ∙ ap (λ b. range_with_len 1 (cond b (length list) count)) (sym test)
     ]
 
 count_at : (worker from i : ℕ) (lists : Requests) (list : List (List Op)) → worker ≡ from + i → slice_get lists i ≡ Some list → count_of worker from lists ≡ length list

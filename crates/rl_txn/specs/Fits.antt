@@ -1,5 +1,5 @@
 -- What a transaction may name: tables and columns that are there, registers, and counts in range.
-use Rattle.std.specs.Prelude.{◌≡◌, ℕ, ◌+◌, ◌<◌, ◌≤◌, List, length, All, sum_by}
+use Rattle.std.specs.Prelude.{◌≡◌, ◌<◌, ◌≤◌, List, length, All, sum_by}
 use Rattle.rl_value.specs.Tables.{Table, columns_of}
 use Rattle.rl_txn.specs.declared.op.Operand.{Operand}
 use Rattle.rl_txn.specs.declared.op.Operand.TheVariants.{Reg, Num}

@@ -1,5 +1,5 @@
 -- What a transaction does on the rows: its ops in order, with its own writes seen.
-use Rattle.std.specs.Prelude.{◌≡◌, ℕ, ◌+◌, ◌-◌, ◌*◌, ◌%◌, ◌^◌, Bool, true, false, not, List, [], ◌∷◌, ◌++◌, length, map, slice_index, slice_set, sum_by, ◌==◌, nat_lt, nat_le, is_some, Option, Some, None, if◌then◌else◌, replicate, zero, suc}
+use Rattle.std.specs.Prelude.{◌≡◌, ℕ, ◌+◌, ◌-◌, ◌*◌, ◌%◌, ◌^◌, Bool, true, false, not, List, [], ◌∷◌, ◌++◌, map, slice_index, slice_set, sum_by, ◌==◌, nat_lt, nat_le, is_some, Option, Some, None, if◌then◌else◌, replicate, zero, suc}
 use Rattle.std.specs.Option.{option_map_or}
 use Rattle.std.specs.List.{range_with_len}
 use Rattle.std.specs.FinMap as finite

@@ -1,11 +1,11 @@
 -- Transactions one after another: what it means that a list of items is serial.
-use Rattle.std.specs.Prelude.{◌≡◌, ℕ, ◌+◌, ◌<◌, ◌≤◌, List, [], ◌∷◌, ◌++◌, length, map, filter, ◌==◌, slice_get, Option, Some, None, IsSomeAnd, zero, suc}
+use Rattle.std.specs.Prelude.{◌≡◌, ℕ, ◌+◌, List, [], ◌∷◌, ◌++◌, length, map, filter, ◌==◌, slice_get, Option, Some, None, IsSomeAnd, zero, suc}
 use Rattle.std.specs.List.{range_with_len}
 use Rattle.std.specs.List.Sorted.{IsStrictlyIncreasing}
 use Rattle.std.specs.Option.{option_and_then}
 use Rattle.std.specs.FinMap as finite
 use Rattle.rl_base.specs.Stamps.{packed}
-use Rattle.rl_value.specs.Rows.{Rows, place_cmp}
+use Rattle.rl_value.specs.Rows.{Rows}
 use Rattle.rl_value.specs.Tables.{Table}
 use Rattle.rl_txn.specs.Run.{run}
 use Rattle.rl_txn.specs.declared.op.Op.{Op}

@@ -7,4 +7,6 @@ pub mod op;
 pub mod progress;
 pub mod run;
 pub mod serial;
+#[cfg(test)]
+mod tests;
 pub mod write;

@@ -1,8 +1,8 @@
 -- Tables that are kept as entries under their names.
-use Rattle.std.proofs.Common.{◌≢◌, is_some, nat_lt, if◌then◌else◌, ◌<◌, ◌≤◌, length, slice_get, subst, inl, inr, arith, length-append, All, ◌≡◌, ℕ, ◌+◌, List, [], ◌∷◌, ◌++◌, map, Bool, true, false, cond, position, Option, Some, None, String, Global, refl, ap, sym, ◌∙◌}
+use Rattle.std.proofs.Common.{◌≢◌, ◌<◌, ◌≤◌, length, slice_get, subst, inl, inr, arith, length-append, All, ◌≡◌, ℕ, ◌+◌, List, [], ◌∷◌, ◌++◌, map, Bool, true, false, cond, position, Some, None, String, Global, refl, ap, sym, ◌∙◌}
 use Rattle.std.specs.List.{position_from}
 use Rattle.std.specs.Map.{lookup}
-use Rattle.std.specs.HashMap.{HashMap, get}
+use Rattle.std.specs.HashMap.{HashMap}
 use Rattle.std.specs.Str.{bytes_eq}
 use Rattle.std.specs.String.{string_bytes, string_eq}
 use Rattle.std.proofs.lemmas.Iterator.Adapters.{position_from-zero}
@@ -49,8 +49,8 @@ table_at entries t e at all =
     let there : slice_get (tables_of entries) t ≡ Some (table_of e) = slice_get-map table_of entries t ∙ ap (option_map table_of) at in
     elim (slice_get_cases (tables_of entries) t).1 [
       | inl (table, within, is, same) ↦
-        let table_is : table ≡ table_of e = cc in
-        subst IsTable (same ∙ table_is) (all t table within)
+          let table_is : table ≡ table_of e = cc in
+          subst IsTable (same ∙ table_is) (all t table within)
       | inr (past, none) ↦ cc
     ]
 

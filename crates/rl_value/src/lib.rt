@@ -5,3 +5,5 @@ pub mod map;
 pub mod name;
 pub mod row;
 pub mod schema;
+#[cfg(test)]
+mod tests;

@@ -49,7 +49,11 @@ impl Row {
     pub fn column_or_zero(&self, c: u32) -> u64
         ensures { result ≡ slice_index self.now c }
     {
-        if c < self.columns() { self.column(c) } else { 0 }
+        if c < self.columns() {
+            self.column(c)
+        } else {
+            0
+        }
     }
 
     /// How many columns it has, one to four.

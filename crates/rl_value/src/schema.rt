@@ -110,13 +110,7 @@ impl Schema {
     }
 
     /// Adds a table that nothing keeps from being declared.
-    fn add(
-        &mut self,
-        alloc: Global,
-        name: &str,
-        size: u32,
-        columns: u32,
-    ) -> Result<u32, Memory>
+    fn add(&mut self, alloc: Global, name: &str, size: u32, columns: u32) -> Result<u32, Memory>
         requires free { refusal name.now size self.old ≡ None }
         requires table { IsTable (record { name = name.now; size = size; columns = columns }) }
         ensures number { IfOk result (λ t. t ≡ length self.old) }

@@ -1,4 +1,4 @@
-use Rattle.std.proofs.Common.{◌≡◌, ◌+◌, ◌≤◌, drop}
+use Rattle.std.proofs.Common.{◌≡◌, ◌+◌, drop}
 use Rattle.rl_txn.specs.Run.{ops_done, beginning}
 use Rattle.rl_txn.proofs.run.run.Given as goal
 

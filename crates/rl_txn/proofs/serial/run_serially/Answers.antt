@@ -1,10 +1,10 @@
-use Rattle.std.proofs.Common.{ℕ, List, ◌≤◌, ◌≡◌, ◌+◌, ◌<◌, ◌++◌, length, slice_get, Some, get_or, take, ap, sym, ◌∙◌, subst, refl, arith, sum_by}
+use Rattle.std.proofs.Common.{ℕ, List, ◌≤◌, ◌≡◌, ◌+◌, ◌++◌, length, get_or, take, ap, sym, ◌∙◌, subst, refl, arith}
 use Rattle.std.proofs.lemmas.List.{take_all}
 use Rattle.std.proofs.lemmas.Option.{slice_get_read}
 use Rattle.rl_base.specs.declared.stamp.Stamp.{Stamp}
 use Rattle.rl_txn.specs.declared.op.Op.{Op}
 use Rattle.rl_txn.specs.Serial.{requests_from}
-use Rattle.rl_txn.proofs.SerialLemmas.{AreDone, names_upto, all_done, next_done, list_begun, list_done, few_done, none_done}
+use Rattle.rl_txn.proofs.SerialLemmas.{AreDone, names_upto, all_done, next_done, list_begun, list_done, few_done}
 use Rattle.rl_txn.proofs.serial.run_serially.Goals as goal
 
 abbrev stamp_after : ℕ → Stamp

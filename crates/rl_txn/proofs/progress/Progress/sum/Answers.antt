@@ -1,4 +1,4 @@
-use Rattle.std.proofs.Common.{◌≡◌, ◌+◌, ◌-◌, ◌%◌, ◌^◌, ◌≤◌, arith, ap, ◌∙◌}
+use Rattle.std.proofs.Common.{◌+◌, ◌%◌, ◌^◌, arith, ap, ◌∙◌}
 use Rattle.rl_txn.proofs.Folds.{scan_more}
 use Rattle.rl_txn.proofs.progress.Progress.sum.Goals as goal
 

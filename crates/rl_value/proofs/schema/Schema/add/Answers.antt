@@ -1,7 +1,5 @@
-use Rattle.std.proofs.Common.{◌≡◌, ◌+◌, ◌<◌, ◌≤◌, length, ap, sym, ◌∙◌, refl, None, [], ◌∷◌, ◌++◌}
-use Rattle.std.specs.String.{string_bytes}
-use Rattle.rl_value.specs.Tables.{IsSchema, table_named, tables_of, record_count}
-use Rattle.rl_value.specs.Declare.{refusal}
+use Rattle.std.proofs.Common.{ap, ◌∙◌, [], ◌∷◌, ◌++◌}
+use Rattle.rl_value.specs.Tables.{tables_of}
 use Rattle.rl_value.proofs.SchemaLemmas.{tables_push, declared_tables}
 use Rattle.rl_value.proofs.schema.Schema.add.Goals as goal
 

@@ -1,0 +1,102 @@
+use crate::command::rolis;
+use rl_base::list::{Bytes, Fails};
+use rl_io::memory_sink::MemSink;
+use rl_io::memory_source::MemSource;
+use std::alloc::Global;
+use std::test::Fail;
+
+const TRANSFERS: &str =
+    "rolis 1\ntable acct 4 1\nrow acct 0 100\nrow acct 1 50\ntxn 1\nget acct 0 0 r0\nneed r0 ge 30\nsub r0 r0 30\nput acct 0 r0\nget acct 1 0 r1\nadd r1 r1 30\nput acct 1 r1\nout r0\nout r1\nend\ntxn 1\nget acct 1 0 r0\nneed r0 ge 5\nsub r0 r0 5\nput acct 1 r0\nget acct 2 0 r1\nadd r1 r1 5\nput acct 2 r1\nout r0\nout r1\nend\n";
+
+/// The numbers of one call that fails, or of none.
+fn failing(alloc: Global, call: u64) -> Result<Fails, Fail> {
+    let mut fails = Fails::new(alloc);
+    fails.push(call)?;
+    Ok(fails)
+}
+
+/// What the words do on an input: the status and what was written. One read and one write fail
+/// where their numbers are not 0.
+fn outcome(
+    alloc: Global,
+    words: &[&str],
+    input: &[u8],
+    failed_read: u64,
+    failed_write: u64,
+) -> Result<(u8, Bytes), Fail> {
+    let mut list = Vec::new(alloc);
+    for word in words {
+        list.push(String::from_str(alloc, word)?)?;
+    }
+    let bytes = Bytes::from_slice(alloc, input)?;
+    let mut source = MemSource::new(bytes, 1000, failing(alloc, failed_read)?);
+    let mut sink = MemSink::new(alloc, 40, 1000, failing(alloc, failed_write)?)?;
+    let status = rolis(alloc, list.as_slice(), &mut source, &mut sink);
+    Ok((status.code, Bytes::from_slice(alloc, sink.bytes())?))
+}
+
+#[test]
+fn scripts_have_their_reports(rt: HostRuntime) -> Result<(), Fail> {
+    let cases = [
+        (
+            TRANSFERS,
+            0,
+            "rolis serial\nitems 2\nitem 1 2 1 1 done 70 80\nitem 1 3 1 2 done 75 5\ntables\nrow acct 0 70\nrow acct 1 75\nrow acct 2 5\n",
+        ),
+        (
+            "rolis 1\ntable t 2 1\nrow t 1 9",
+            0,
+            "rolis serial\nitems 0\ntables\nrow t 1 9\n",
+        ),
+        (
+            "rolis 1\ntable t 1 1\nrow t 0 20\ntxn 1\nget t 0 0 r0\nneed r0 ge 30\nput t 0 0\nend",
+            0,
+            "rolis serial\nitems 1\nitem 1 2 1 1 declined 2\ntables\nrow t 0 20\n",
+        ),
+        (
+            "rolis 1\ntable t 4 1\ntxn 1\nset r0 4\nput t r0 1\nend\ntxn 1\nset r0 3\nput t r0 1\nend",
+            0,
+            "rolis serial\nitems 2\nitem 1 2 1 1 declined 2\nitem 1 3 1 2 done\ntables\nrow t 3 1\n",
+        ),
+        ("rolis 1\nrow x 0 1", 3, "fault line 0 Later\n"),
+    ];
+    for (input, code, output) in cases {
+        let (status, held) = outcome(rt.alloc(), &["serial"], input.as_bytes(), 0, 0)?;
+        assert_eq!(rt; status, code, "{input}");
+        assert_eq!(rt; held.as_slice(), output.as_bytes(), "{input}");
+    }
+    Ok(())
+}
+
+#[test]
+fn faults_and_limits_have_their_lines(rt: HostRuntime) -> Result<(), Fail> {
+    let usage =
+        "usage: rolis serial, steps, sim, live, check, gen script S N W R, gen run S N W R\n";
+    let transfers = TRANSFERS.as_bytes();
+    for words in [
+        [].as_slice(),
+        ["Serial"].as_slice(),
+        ["serial", "serial"].as_slice(),
+    ] {
+        let (status, held) = outcome(rt.alloc(), words, transfers, 0, 0)?;
+        assert_eq!(rt; status, 2);
+        assert_eq!(rt; held.as_slice(), usage.as_bytes());
+    }
+    let (status, held) = outcome(rt.alloc(), &["serial"], transfers, 1, 0)?;
+    assert_eq!(rt; (status, held.as_slice()), (5, b"read fault\n".as_slice()));
+    let (status, held) = outcome(rt.alloc(), &["serial"], transfers, 0, 2)?;
+    assert_eq!(rt; status, 6);
+    assert_eq!(rt;
+        held.as_slice(),
+        b"rolis serial\nitems 2\nitem 1 2 1 1 done 7".as_slice()
+    );
+    let (status, held) = outcome(rt.alloc(), &[], transfers, 0, 1)?;
+    assert_eq!(rt; (status, held.len()), (6, 0));
+    let long = vec![in rt.alloc(); b' '; 4194305]?;
+    let (status, held) = outcome(rt.alloc(), &["serial"], long.as_slice(), 0, 0)?;
+    assert_eq!(rt;
+        (status, held.as_slice()),
+        (4, b"limit input 4194304\n".as_slice())
+    );
+    Ok(())
+}
