@@ -1,12 +1,12 @@
 -- What follows from how a call was served.
-use Rattle.std.proofs.Common.{◌≡◌, ◌≢◌, ℕ, ◌<◌, ◌≤◌, ◌⊎◌, inl, inr, Bool, true, false, cond, List, length, Option, Some, None, IfSome, MatchOption, is_some, nat_lt, refl, ap, sym, ◌∙◌, subst, arith}
+use Rattle.std.proofs.Common.{◌≡◌, ◌≢◌, ℕ, ◌<◌, ◌≤◌, ◌⊎◌, inl, inr, false, cond, List, length, Option, Some, None, IfSome, MatchOption, is_some, nat_lt, refl, ap, sym, ◌∙◌, subst, arith}
 use Rattle.std.specs.Io.KnownBytes.{append_known}
 use Rattle.std.proofs.lemmas.Bool.Decides.{nat_tests}
 use Rattle.rl_script.specs.Read.{script_in}
 use Rattle.rl_script.specs.declared.fault.Kind.TheVariants.{Later}
 use Rattle.rl_script.specs.declared.script.Script.{Script}
 use Rattle.rl_app.specs.Serial.{IsReport, Answers, Reports, Faults, status_of}
-use Rattle.rl_app.specs.Serve.{input_limit, fault_line, limit_line, read_fault_line, memory_line, WasRead, Wrote, WroteFront, Means, Delivers}
+use Rattle.rl_app.specs.Serve.{input_limit, fault_line, limit_line, read_fault_line, memory_line, Wrote, WroteFront, Means, Delivers}
 
 -- a call of `serial` was served: what it meant to write, and what was written
 abbrev pub Served : Option (List ℕ) → Option (List ℕ) → Type 0 → Option (List ℕ) → Option (List ℕ) → Type 0 → ℕ → Type 0

@@ -1,6 +1,5 @@
 -- The statuses of the top call.
-use Rattle.std.proofs.Common.{◌≡◌, ◌≢◌, ℕ, ◌⊎◌, inl, inr, Bool, true, false, List, Option, arith, sym, ◌∙◌}
-use Rattle.rl_app.specs.Serve.{Wrote, WroteFront, Delivers}
+use Rattle.std.proofs.Common.{◌≡◌, ℕ, ◌⊎◌, inl, inr, Bool, true, false, arith, sym, ◌∙◌}
 
 -- no status of a command is that of wrong words
 pub not_usage : (n : ℕ) → (n ≡ 0) ⊎ (n ≡ 3) ⊎ (n ≡ 4) ⊎ (n ≡ 5) ⊎ (n ≡ 6) ⊎ (n ≡ 7) → n ≡ 2 → ⊥

@@ -1,6 +1,5 @@
 -- What the command `serial` answers.
-use Rattle.std.specs.Prelude.{◌≡◌, ℕ, ◌<◌, ◌≤◌, ◌⊎◌, List, length, Option, Some, None, MatchOption, is_some, nat_lt, if◌then◌else◌}
-use Rattle.rl_value.specs.Rows.{Rows}
+use Rattle.std.specs.Prelude.{◌≡◌, ℕ, List, length, Option, Some, None, MatchOption, is_some, nat_lt, if◌then◌else◌}
 use Rattle.rl_txn.specs.Serial.{after, IsListByList}
 use Rattle.rl_txn.specs.declared.item.Item.{Item}
 use Rattle.rl_script.specs.Read.{script_in}

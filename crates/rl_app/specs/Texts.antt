@@ -1,9 +1,9 @@
 -- What is printed.
-use Rattle.std.specs.Prelude.{ℕ, ◌+◌, List, [], ◌∷◌, ◌++◌, length, codes, Option, Some, None}
+use Rattle.std.specs.Prelude.{ℕ, List, [], ◌∷◌, ◌++◌, length, codes, Option, Some, None}
 use Rattle.std.specs.List.{flat_map, range_with_len}
 use Rattle.std.specs.Fmt.{decimal}
 use Rattle.std.specs.FinMap as finite
-use Rattle.rl_value.specs.Rows.{Rows, place_cmp}
+use Rattle.rl_value.specs.Rows.{Rows}
 use Rattle.rl_value.specs.Tables.{Table, name_of, size_of}
 use Rattle.rl_txn.specs.declared.write.End.{End}
 use Rattle.rl_txn.specs.declared.write.End.TheVariants.{Done, Declined}

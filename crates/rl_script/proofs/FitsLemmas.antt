@@ -1,10 +1,9 @@
 -- What the lines so far keep, over one more line.
-use Rattle.std.proofs.Common.{◌≡◌, ◌≢◌, ℕ, ◌+◌, ◌-◌, ◌<◌, ◌≤◌, List, [], ◌∷◌, ◌++◌, length, All, sum_by, Some, None, zero, suc, refl, ap, sym, ◌∙◌, arith, length-append, Option, IfSome}
+use Rattle.std.proofs.Common.{◌≡◌, ◌≢◌, ℕ, ◌+◌, ◌-◌, ◌<◌, List, [], ◌∷◌, ◌++◌, length, All, sum_by, Some, None, zero, suc, refl, ap, ◌∙◌, arith, length-append}
 use Rattle.std.proofs.lemmas.List.Elements.{All-head, All-tail, All-cons, All-push}
 use Rattle.std.proofs.lemmas.List.Sums.{sum_by-cons}
 use Rattle.rl_base.specs.Lists.{with_last}
 use Rattle.rl_value.specs.Rows.{Rows}
-use Rattle.rl_value.specs.Tables.{Table}
 use Rattle.rl_txn.specs.Fits.{OpFits, TxnFits}
 use Rattle.rl_txn.specs.declared.op.Op.{Op}
 use Rattle.rl_script.specs.declared.draft.Draft.{Draft}

@@ -1,5 +1,5 @@
 -- What a function over words answers, beside what reading them says.
-use Rattle.std.specs.Prelude.{◌≡◌, ℕ, Option, Some, None, Result, Ok, Err}
+use Rattle.std.specs.Prelude.{◌≡◌, ℕ, Option, Some, Result, Ok, Err}
 use Rattle.rl_script.specs.declared.fault.Kind.{Kind}
 use Rattle.rl_script.specs.declared.fault.Problem.{Problem}
 use Rattle.rl_script.specs.declared.fault.Problem.TheVariants.{Fault}

@@ -1,9 +1,7 @@
 -- What the lines so far keep: the ranges and limits of a script.
-use Rattle.std.specs.Prelude.{◌≡◌, ℕ, ◌+◌, ◌<◌, ◌≤◌, List, length, All, sum_by, Option, Some, None, IfSome, is_some, if◌then◌else◌}
-use Rattle.rl_value.specs.Tables.{Table}
+use Rattle.std.specs.Prelude.{◌≡◌, ◌+◌, ◌≤◌, length, All, sum_by, IfSome, is_some, if◌then◌else◌}
 use Rattle.rl_txn.specs.Fits.{TxnFits}
 use Rattle.rl_script.specs.declared.draft.Section.TheVariants.{Tables}
-use Rattle.rl_script.specs.declared.draft.OpenTxn.{OpenTxn}
 use Rattle.rl_script.specs.declared.draft.Draft.{Draft}
 
 -- the transactions so far fit the tables, and are counted

@@ -1,5 +1,5 @@
 -- What a script says, line by line, or what is wrong with its first wrong line.
-use Rattle.std.specs.Prelude.{◌≡◌, ℕ, ◌+◌, ◌-◌, Bool, true, false, not, ◌&&◌, List, [], ◌∷◌, ◌++◌, length, slice_index, ◌==◌, nat_lt, Option, Some, None, is_some, Result, Ok, Err, if◌then◌else◌, codes}
+use Rattle.std.specs.Prelude.{ℕ, ◌+◌, ◌-◌, Bool, true, false, not, ◌&&◌, List, [], ◌∷◌, ◌++◌, length, slice_index, ◌==◌, nat_lt, Option, Some, None, is_some, Result, Ok, Err, if◌then◌else◌, codes}
 use Rattle.std.specs.Option.{option_map}
 use Rattle.std.specs.Result.{result_ok}
 use Rattle.std.specs.Str.{bytes_eq}
@@ -7,16 +7,14 @@ use Rattle.std.specs.FinMap as map
 use Rattle.rl_base.specs.Lists.{with_last}
 use Rattle.rl_base.specs.declared.limit.LimitName.TheVariants as limits
 use Rattle.rl_value.specs.Names.{is_name}
-use Rattle.rl_value.specs.Rows.{place_cmp}
-use Rattle.rl_value.specs.Tables.{Table, table_named, size_of, record_count}
+use Rattle.rl_value.specs.Tables.{table_named, size_of, record_count}
 use Rattle.rl_txn.specs.declared.op.Op.{Op}
 use Rattle.rl_script.specs.declared.draft.Section.{Section}
 use Rattle.rl_script.specs.declared.draft.Section.TheVariants.{Tables, Transactions}
-use Rattle.rl_script.specs.declared.draft.OpenTxn.{OpenTxn}
 use Rattle.rl_script.specs.declared.draft.Draft.{Draft}
 use Rattle.rl_script.specs.declared.script.Script.{Script}
 use Rattle.rl_script.specs.declared.fault.Kind.{Kind}
-use Rattle.rl_script.specs.declared.fault.Kind.TheVariants.{Byte, Header, Word, Order, Count, Number, Name, Duplicate, Unended}
+use Rattle.rl_script.specs.declared.fault.Kind.TheVariants.{Byte, Header, Word, Order, Count, Name, Duplicate, Unended}
 use Rattle.rl_script.specs.declared.fault.Problem.{Problem}
 use Rattle.rl_script.specs.declared.fault.Problem.TheVariants.{Fault, Limit}
 use Rattle.rl_script.specs.declared.line.OpWord.{OpWord}

@@ -1,5 +1,4 @@
-use Rattle.std.proofs.Common.{ap, ◌∙◌, ◌++◌, refl}
-use Rattle.std.specs.String.{string_bytes}
+use Rattle.std.proofs.Common.{◌∙◌, refl}
 use Rattle.std.specs.FinMap as finite
 use Rattle.rl_value.specs.Tables.{name_of}
 use Rattle.rl_app.specs.Texts.{row_text}
