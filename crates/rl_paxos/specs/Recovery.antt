@@ -1,5 +1,5 @@
 -- What a candidate of an epoch collects and recovers, after the first phase of Multi-Paxos.
-use Rattle.std.specs.Prelude.{◌≡◌, ℕ, ◌-◌, ◌≤◌, List, [], ◌∷◌, ◌++◌, length, Bool, not, ◌&&◌, ◌||◌, ◌==◌, nat_lt, if◌then◌else◌, slice_index, slice_index_or, Contains}
+use Rattle.std.specs.Prelude.{◌≡◌, ℕ, zero, suc, ◌-◌, ◌≤◌, List, [], ◌∷◌, ◌++◌, length, Bool, not, ◌&&◌, ◌||◌, ◌==◌, nat_lt, if◌then◌else◌, slice_index, slice_index_or, Contains}
 use Rattle.std.specs.List.{best_of, list_any}
 use Rattle.rl_paxos.specs.Logs.{Log}
 use Rattle.rl_paxos.specs.Quorums.{is_node}
@@ -21,6 +21,11 @@ pub record Candidate : Type 0 where
 abbrev pub new_candidate : (epoch nodes streams need : ℕ) → Candidate
 new_candidate epoch nodes streams need = record { epoch = epoch; nodes = nodes; streams = streams; need = need; promises = [] }
 
+-- it has one ballot and one log for each stream
+abbrev pub HasStreams : (streams : ℕ) → Promise → Type 0
+HasStreams streams p = (length p.ballots ≡ streams) × (length p.logs ≡ streams)
+
+-- whether a node is among those that promised
 abbrev pub has_promised : List Promise → (node : ℕ) → Bool
 has_promised promises node = list_any (λ p. p.node == node) promises
 
@@ -46,6 +51,11 @@ is_better s p q =
 abbrev pub recovered : List Promise → (s : ℕ) → Log
 recovered [] s = []
 recovered (p ∷ ps) s = promised_log s (best_of (is_better s) p ps)
+
+-- of streams 1 to k, in their order
+abbrev pub recovered_logs : List Promise → (k : ℕ) → List Log
+recovered_logs promises zero = []
+recovered_logs promises (suc k) = recovered_logs promises k ++ recovered promises (suc k) ∷ []
 
 -- the recovered log in full: among the logs of the highest ballot the longest, and of equally long ones the least node's
 pub record IsRecovered (promises : List Promise) (s : ℕ) (log : Log) : Type 0 where
