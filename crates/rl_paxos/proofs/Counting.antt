@@ -84,6 +84,12 @@ is_node_high n a h = leb-true a n (and_parts (nat_le 1 a) (nat_le a n) h).1
 abbrev pub EachOnce : (nodes : ℕ) → List Promise → Type 0
 EachOnce nodes promises = count (has_promised promises) nodes ≡ length promises
 
+pub once_at_most : (nodes : ℕ) (ps : List Promise) → EachOnce nodes ps → length ps ≤ nodes
+once_at_most nodes ps h = omega (arith, at_most (has_promised ps) nodes, h)
+
+pub once_below : (nodes : ℕ) (ps : List Promise) (x : ℕ) → EachOnce nodes ps → is_node nodes x ≡ true → has_promised ps x ≡ false → length ps < nodes
+once_below nodes ps x h node out = omega (arith, not_all (has_promised ps) x nodes (is_node_low nodes x node) (is_node_high nodes x node) out, h)
+
 pub counted_once : (nodes : ℕ) (ps : List Promise) (p : Promise) → EachOnce nodes ps → is_node nodes p.node ≡ true → has_promised ps p.node ≡ false → EachOnce nodes (ps ++ p ∷ [])
 counted_once nodes ps p h node out =
     let more : count (has_promised (ps ++ p ∷ [])) nodes ≡ count (has_promised ps) nodes + 1 =

@@ -1,0 +1,6 @@
+//! The election of a leader: promises are collected, and each stream's log is recovered from them.
+#![tactic(auto)]
+
+pub mod candidate;
+mod promise;
+pub mod recover_error;
