@@ -2,5 +2,6 @@
 #![tactic(auto)]
 
 pub mod candidate;
+pub mod laws;
 mod promise;
 pub mod recover_error;
