@@ -1,10 +1,10 @@
 -- What a second quorum acked stands at the head of every later first log.
-use Rattle.std.proofs.Common.{◌≡◌, ◌≢◌, ◌⊎◌, ℕ, zero, suc, ◌+◌, ◌-◌, ◌<◌, ◌≤◌, List, [], ◌∷◌, ◌++◌, length, get_or, Bool, true, false, ◌==◌, ◌&&◌, ◌||◌, nat_le, Option, Some, refl, sym, ap, ◌∙◌, subst, arith, inl, inr, eqb-true}
+use Rattle.std.proofs.Common.{◌≡◌, ◌⊎◌, ℕ, zero, suc, ◌+◌, ◌-◌, ◌<◌, ◌≤◌, List, [], ◌∷◌, ◌++◌, length, get_or, true, ◌==◌, ◌&&◌, nat_le, Some, refl, sym, arith, inl, inr, eqb-true}
 use Rattle.std.proofs.lemmas.Bool.{cases_eq, and_parts, or_cases, leb-true, true≢false}
-use Rattle.std.specs.List.{best_of, list_any}
-use Rattle.rl_paxos.specs.Logs.{Batch, Log, IsPrefix}
+use Rattle.std.specs.List.{best_of}
+use Rattle.rl_paxos.specs.Logs.{Log, IsPrefix}
 use Rattle.rl_paxos.specs.Quorums.{is_quorum}
-use Rattle.rl_paxos.specs.Recovery.{Promise, has_promised, promised_ballot, promised_log, recovered, is_better}
+use Rattle.rl_paxos.specs.Recovery.{Promise, has_promised, recovered, is_better}
 use Rattle.rl_paxos.proofs.Best.{NoBetter, best_in, best_top}
 use Rattle.rl_paxos.proofs.Counting.{meet}
 use Rattle.rl_paxos.proofs.Members.{In}
@@ -39,7 +39,7 @@ acked_says e s len (Ack f r l) h =
     let y = and_parts (r == s) (nat_le len l) x.1 in
     (l, (let q : f ≡ e = eqb-true f e x.0 in let z : r ≡ s = eqb-true r s y.0 in rw (q, z) refl), leb-true len l y.1)
 
-acked_in : (ms : List Message) (e s len a : ℕ) → has_acked ms e s len a ≡ true → (l to : ℕ) × In (record { from = a; to = to; says = Ack e s l }) ms × (len ≤ l)
+pub acked_in : (ms : List Message) (e s len a : ℕ) → has_acked ms e s len a ≡ true → (l to : ℕ) × In (record { from = a; to = to; says = Ack e s l }) ms × (len ≤ l)
 acked_in [] e s len a h = absurd (true≢false (sym h))
 acked_in (m ∷ ms) e s len a h = elim (or_cases ((m.from == a) && says_ack e s len m.says) (has_acked ms e s len a) h) [
   | inl t ↦ (

@@ -1,14 +1,13 @@
 -- What holds between any two events. Streams stand here by their index, from 0.
-use Rattle.std.proofs.Common.{◌≡◌, ◌≢◌, ℕ, ◌+◌, ◌-◌, ◌<◌, ◌≤◌, List, [], ◌∷◌, ◌++◌, length, get_or, true, Option, Some, None, refl, sym, ◌∙◌, arith}
+use Rattle.std.proofs.Common.{◌≡◌, ℕ, ◌+◌, ◌-◌, ◌<◌, ◌≤◌, List, [], ◌∷◌, ◌++◌, length, get_or, true, Some, None, refl, sym, ◌∙◌, arith}
 use Rattle.rl_base.specs.Epochs.{owner_of}
 use Rattle.rl_paxos.specs.Acceptors.{Kept, Acceptor, nothing_kept}
-use Rattle.rl_paxos.specs.Leaders.{Leading}
 use Rattle.rl_paxos.specs.Logs.{Batch, Log, IsPrefix}
 use Rattle.rl_paxos.specs.Quorums.{is_quorum}
 use Rattle.rl_paxos.specs.Recovery.{Promise, Candidate, has_promised, recovered}
 use Rattle.rl_paxos.proofs.Counting.{EachOnce}
 use Rattle.rl_paxos.proofs.Members.{In}
-use Rattle.rl_election.specs.World.{Setting, Says, Prepare, Promised, Sync, Accept, Ack, Message, State, Role, Follows, Stands, Leads, Node, Term, World, no_stream}
+use Rattle.rl_election.specs.World.{Setting, Says, Prepare, Promised, Sync, Accept, Ack, Message, Role, Follows, Stands, Leads, Term, World, no_stream}
 use Rattle.rl_election.proofs.Prefixes.{prefix_self, prefix_trans, prefix_length, prefix_get}
 
 -- what an acceptor keeps at an index

@@ -1,5 +1,7 @@
 pub mod Agree
+pub mod Choices
 pub mod Inv
+pub mod Led
 pub mod Prefixes
 pub mod Room
 pub mod Stays

@@ -1,19 +1,18 @@
 -- What was said stays said: first logs stand, and a leader's logs and what was sent only grow.
-use Rattle.std.proofs.Common.{◌≡◌, ◌≢◌, ◌⊎◌, ℕ, zero, suc, ◌+◌, ◌-◌, ◌<◌, ◌≤◌, List, [], ◌∷◌, ◌++◌, length, Bool, true, false, not, ◌&&◌, ◌||◌, ◌==◌, nat_lt, nat_le, if◌then◌else◌, Option, Some, None, refl, sym, ap, ◌∙◌, arith, inl, inr, eqb-true, append_assoc, append-nil}
-use Rattle.std.proofs.lemmas.Bool.{and_parts, or_cases, cond_both, true≢false, or_left, or_right, and_from, le-leb, leb-true}
+use Rattle.std.proofs.Common.{◌≡◌, ℕ, zero, suc, ◌+◌, ◌≤◌, List, [], ◌∷◌, ◌++◌, length, Bool, true, not, ◌&&◌, ◌==◌, nat_le, Option, Some, None, refl, sym, ap, ◌∙◌, arith, inl, inr, append_assoc, append-nil}
+use Rattle.std.proofs.lemmas.Bool.{and_parts, or_cases, cond_both, true≢false, or_left, or_right, le-leb, leb-true}
 use Rattle.std.specs.Prelude.{slice_get}
 use Rattle.rl_paxos.specs.declared.refused.Refused.{Refused}
-use Rattle.rl_paxos.specs.Acceptors.{Acceptor, refuses, refuses_accept, prepared, synced, accepted}
+use Rattle.rl_paxos.specs.Acceptors.{refuses, refuses_accept}
 use Rattle.rl_paxos.specs.Leaders.{Leading, acks, proposed}
-use Rattle.rl_paxos.specs.Logs.{Batch, Log, IsPrefix}
+use Rattle.rl_paxos.specs.Logs.{Batch, IsPrefix}
 use Rattle.rl_paxos.specs.Quorums.{is_node, count, is_quorum}
 use Rattle.rl_paxos.specs.Recovery.{Promise, Candidate, counts, has_promised}
-use Rattle.rl_paxos.proofs.Members.{In, in_front}
-use Rattle.rl_election.specs.World.{Setting, Says, Prepare, Promised, Sync, Accept, Ack, Message, Role, Follows, Stands, Leads, Node, Term, World, to_all, opening, Event, Elect, Deliver, Propose, Crash, Return, Lose, is_up, is_stream, does, has_term, unless, may_stand, first_logs, leads, stands_or_leads, hears_promise, stream_of, with_stream, counts_ack, hears_ack, receives, delivers, proposes_in, proposes, happens, after, upd}
+use Rattle.rl_election.specs.World.{Setting, Says, Prepare, Promised, Sync, Accept, Ack, Message, Role, Follows, Stands, Leads, Node, Term, World, Event, Elect, Deliver, Propose, Crash, Return, Lose, is_up, is_stream, does, unless, may_stand, leads, stands_or_leads, hears_promise, stream_of, counts_ack, hears_ack, receives, delivers, proposes_in, proposes, happens, after}
 use Rattle.rl_election.specs.Chosen.{says_ack, has_acked, is_chosen_len}
 use Rattle.rl_election.proofs.Prefixes.{prefix_self, prefix_trans}
 use Rattle.rl_election.proofs.Updates.{by_upd}
-use Rattle.rl_election.proofs.Inv.{log_at, StandsOk, RoleOk, Inv, TermGrows, term_stays}
+use Rattle.rl_election.proofs.Inv.{log_at, RoleOk, Inv, TermGrows, term_stays}
 use Rattle.rl_election.proofs.Steps.{some_none, further_terms, happens_inv}
 
 pub record Stays (w v : World) : Type 0 where

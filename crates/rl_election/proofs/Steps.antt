@@ -1,22 +1,22 @@
 -- Each event keeps what holds between events.
 use Rattle.std.proofs.Common.{◌≡◌, ◌≢◌, ◌⊎◌, ℕ, zero, suc, ◌+◌, ◌-◌, ◌<◌, ◌≤◌, List, [], ◌∷◌, ◌++◌, length, map, get_or, set, Bool, true, false, not, ◌&&◌, ◌==◌, nat_lt, nat_le, if◌then◌else◌, Option, Some, None, refl, sym, ap, ◌∙◌, subst, arith, inl, inr, eqb-true, max, replicate, append-nil, length-append, length-set}
-use Rattle.std.proofs.lemmas.Bool.{cases_eq, and_parts, ltb-true, ltb-false, leb-true, leb-false, cond_both, not-true, le-leb}
+use Rattle.std.proofs.lemmas.Bool.{cases_eq, and_parts, ltb-true, ltb-false, leb-true, cond_both, not-true, le-leb}
 use Rattle.std.proofs.lemmas.List.{length-map, get_or-map, length-replicate}
 use Rattle.std.specs.Prelude.{slice_get}
 use Rattle.rl_base.specs.Epochs.{owner_of}
 use Rattle.rl_paxos.specs.declared.refused.Refused.{Refused}
 use Rattle.rl_paxos.specs.declared.refused.Refused.TheVariants as refused
-use Rattle.rl_paxos.specs.Acceptors.{Kept, Acceptor, nothing_kept, kept_of, ballot_of, log_of, refuses, refuses_accept, prepared, keeps, synced, accepted}
+use Rattle.rl_paxos.specs.Acceptors.{Kept, Acceptor, nothing_kept, ballot_of, log_of, refuses, refuses_accept, prepared, keeps, synced, accepted}
 use Rattle.rl_paxos.specs.Leaders.{Leading, new_leading, acks, proposed}
 use Rattle.rl_paxos.specs.Logs.{Batch, Log, IsPrefix}
 use Rattle.rl_paxos.specs.Quorums.{is_node, count, is_quorum}
 use Rattle.rl_paxos.specs.Recovery.{Promise, Candidate, new_candidate, counts, has_promised, recovered, recovered_logs}
 use Rattle.rl_paxos.proofs.Counting.{none, counted_once}
-use Rattle.rl_paxos.proofs.Members.{In, in_front, in_back, in_split}
-use Rattle.rl_election.specs.World.{Setting, Says, Prepare, Promised, Sync, Accept, Ack, Message, State, Lost, Role, Follows, Stands, Leads, Node, Term, World, to_all, opening, Event, Elect, Deliver, Propose, Crash, Return, Lose, upd, is_up, is_stream, does, has_term, unless, may_stand, elects, answers, promise_of, ack_of, first_logs, syncs, leads, stands_or_leads, hears_promise, no_stream, stream_of, with_stream, counts_ack, hears_ack, receives, delivers, proposes_in, proposes, crashed, returned, happens, after}
-use Rattle.rl_election.proofs.Prefixes.{prefix_self, prefix_more, prefix_trans, prefix_next, prefix_length}
+use Rattle.rl_paxos.proofs.Members.{In, in_front, in_split}
+use Rattle.rl_election.specs.World.{Setting, Says, Prepare, Promised, Sync, Accept, Ack, Message, State, Lost, Role, Follows, Stands, Leads, Node, Term, World, to_all, opening, Event, Elect, Deliver, Propose, Crash, Return, Lose, upd, is_up, is_stream, does, unless, may_stand, elects, answers, promise_of, ack_of, first_logs, syncs, leads, stands_or_leads, hears_promise, stream_of, with_stream, counts_ack, hears_ack, receives, delivers, proposes_in, proposes, crashed, returned, happens, after}
+use Rattle.rl_election.proofs.Prefixes.{prefix_self, prefix_more, prefix_trans, prefix_next}
 use Rattle.rl_election.proofs.Updates.{by_upd, upd_same, upd_other, index_of, keeps_here, keeps_other, shown_is, to_all_in, syncs_in, get_in, length-recovered, get_or-recovered, new_logs, log_other, log_here}
-use Rattle.rl_election.proofs.Inv.{kept_at, first_at, log_at, WasSent, InLed, KeptOk, AcceptorOk, shown, PromiseOk, AcceptOk, AckOk, SaysOk, Shows, Used, StandsOk, RoleOk, TermOk, Inv, TermGrows, AcceptorGrows, Grows, led_kept, kept_kept, sent_kept, used_kept, says_kept, stands_kept, acceptor_kept, term_kept, acceptor_stays, term_stays}
+use Rattle.rl_election.proofs.Inv.{kept_at, first_at, log_at, WasSent, InLed, KeptOk, AcceptorOk, shown, PromiseOk, AcceptOk, AckOk, SaysOk, Shows, Used, StandsOk, RoleOk, TermOk, Inv, TermGrows, AcceptorGrows, Grows, led_kept, kept_kept, used_kept, says_kept, stands_kept, acceptor_kept, term_kept, acceptor_stays, term_stays}
 
 -- neither a promise nor an ack
 abbrev pub Quiet : Says → Type 0

@@ -1,13 +1,13 @@
 -- Changes at one place of a function or a list, and what is sent to all.
-use Rattle.std.proofs.Common.{◌≡◌, ◌≢◌, ◌⊎◌, ℕ, zero, suc, ◌+◌, ◌-◌, ◌<◌, ◌≤◌, List, [], ◌∷◌, ◌++◌, length, map, get_or, set, Bool, true, false, ◌&&◌, ◌==◌, nat_le, if◌then◌else◌, Option, Some, None, refl, sym, ap, ◌∙◌, subst, arith, inl, inr, eq-eqb, ne_eqb, length-append, get_or-set_same, get_or-set_other}
+use Rattle.std.proofs.Common.{◌≡◌, ◌≢◌, ℕ, zero, suc, ◌+◌, ◌-◌, ◌<◌, List, [], ◌∷◌, ◌++◌, length, map, get_or, true, nat_le, Some, None, refl, ap, ◌∙◌, arith, inl, inr, eq-eqb, ne_eqb, length-append, get_or-set_same, get_or-set_other}
 use Rattle.std.proofs.lemmas.Bool.{cases_eq, and_parts, leb-true}
 use Rattle.std.specs.Prelude.{slice_get}
 use Rattle.rl_paxos.specs.Acceptors.{Kept, Acceptor, nothing_kept, keeps}
-use Rattle.rl_paxos.specs.Leaders.{Leading, new_leading, acks, proposed}
-use Rattle.rl_paxos.specs.Logs.{Batch, Log}
+use Rattle.rl_paxos.specs.Leaders.{Leading, new_leading}
+use Rattle.rl_paxos.specs.Logs.{Log}
 use Rattle.rl_paxos.specs.Recovery.{Promise, recovered, recovered_logs}
 use Rattle.rl_paxos.proofs.Members.{In, in_split}
-use Rattle.rl_election.specs.World.{Setting, Says, Sync, Message, Term, to_all, syncs, upd, is_stream, no_stream, stream_of, with_stream}
+use Rattle.rl_election.specs.World.{Setting, Says, Sync, Message, Term, to_all, syncs, upd, is_stream, no_stream, with_stream}
 use Rattle.rl_election.proofs.Inv.{kept_at, shown, log_at}
 
 pub by_upd : {A : Type 0} (P : A → Type 0) (f : ℕ → A) (i : ℕ) (x : A) (j : ℕ) → (j ≡ i → P x) → (j ≢ i → P (f j)) → P (upd f i x j)

@@ -1,6 +1,7 @@
 -- What was chosen, and with what a leader began.
-use Rattle.std.specs.Prelude.{◌≡◌, ℕ, ◌-◌, ◌≤◌, List, [], length, Bool, false, ◌&&◌, ◌||◌, ◌==◌, nat_le, IsTrue, Some, slice_index_or}
+use Rattle.std.specs.Prelude.{◌≡◌, ℕ, ◌-◌, List, [], length, Bool, false, ◌&&◌, ◌||◌, ◌==◌, nat_le, IsTrue, Some, slice_index_or}
 use Rattle.std.specs.List.{list_any}
+use Rattle.rl_paxos.specs.Leaders.{Leading}
 use Rattle.rl_paxos.specs.Logs.{Log, IsPrefix}
 use Rattle.rl_paxos.specs.Quorums.{is_quorum}
 use Rattle.rl_election.specs.World.{Setting, World, Message, Says, Prepare, Promised, Sync, Accept, Ack, Term, stream_of}
@@ -53,3 +54,9 @@ pub record IsAdopted (w : World) (epoch s : ℕ) (adopted : Log) : Type 0 where
   pub is_log : IsLog w epoch s log
   pub begins : IsPrefix first adopted
   pub within : IsPrefix adopted log
+
+-- a stream of an epoch's one leader, as it stands or last stood
+pub record IsLeading (w : World) (epoch s : ℕ) (stream : Leading) : Type 0 where
+  pub term : Term
+  pub led : w.terms epoch ≡ Some term
+  pub stream_is : stream_of term s ≡ stream

@@ -1,4 +1,4 @@
-use Rattle.std.proofs.Common.{◌-◌, ◌<◌, refl}
+use Rattle.std.proofs.Common.{◌-◌, refl}
 use Rattle.rl_paxos.specs.Acceptors.{Acceptor, ballot_of, log_of}
 use Rattle.rl_election.specs.World.{World, opening, after}
 use Rattle.rl_election.proofs.Inv.{Inv, InLed, first_at, log_at}

@@ -1,11 +1,11 @@
-use Rattle.std.proofs.Common.{◌≡◌, ◌-◌, [], ◌∷◌, ◌++◌, ◌==◌, List, length, true, Some, refl, sym, ap, ◌∙◌, subst, arith, inl, inr, eqb-true}
+use Rattle.std.proofs.Common.{◌≡◌, ◌-◌, [], ◌∷◌, ◌++◌, ◌==◌, List, length, refl, arith, inl, inr, eqb-true}
 use Rattle.std.proofs.lemmas.Bool.{or_cases}
 use Rattle.rl_paxos.specs.Logs.{Log, IsPrefix}
 use Rattle.rl_paxos.specs.Quorums.{is_quorum}
-use Rattle.rl_election.specs.World.{Setting, Event, Term, World, opening, after, stream_of}
-use Rattle.rl_election.specs.Chosen.{IsFirst, IsChosen, first_of, has_acked}
+use Rattle.rl_election.specs.World.{Setting, Event, World, opening, after}
+use Rattle.rl_election.specs.Chosen.{has_acked}
 use Rattle.rl_election.proofs.Agree.{agrees}
-use Rattle.rl_election.proofs.Inv.{Inv, TermGrows, first_at, log_at}
+use Rattle.rl_election.proofs.Inv.{Inv, log_at}
 use Rattle.rl_election.proofs.Prefixes.{prefix_trans}
 use Rattle.rl_election.proofs.Stays.{Stays, after_stays, after-append, chosen_on}
 use Rattle.rl_election.proofs.Steps.{some_same, after_inv, opening_inv}
