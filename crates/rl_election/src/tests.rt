@@ -52,29 +52,53 @@ fn elected(
     Ok(LeaderStream::new(alloc, 1, 3, 2, log)?)
 }
 
+/// A node adopts the leader's log, and acks it.
+fn adopts(
+    rt: &impl Abort,
+    alloc: Global,
+    leader: &mut LeaderStream,
+    node: u32,
+    acceptor: &mut Acceptor,
+) -> Result<u32, Fail>
+    requires { length acceptor.old.streams ≡ 1 }
+    ensures { length acceptor.new.streams ≡ 1 }
+{
+    let log = leader.log().copy(alloc)?;
+    let len = acceptor.sync(1, 1, log)?;
+    assert_eq!(rt; len as usize, leader.log().len());
+    Ok(leader.ack(node, len))
+}
+
+/// A node accepts the batch in slot 1, and acks it.
+fn accepts(
+    rt: &impl Abort,
+    alloc: Global,
+    leader: &mut LeaderStream,
+    node: u32,
+    acceptor: &mut Acceptor,
+) -> Result<u32, Fail>
+    requires { length acceptor.old.streams ≡ 1 }
+    ensures { length acceptor.new.streams ≡ 1 }
+{
+    let batch = Bytes::from_slice(alloc, b"batch")?;
+    let len = acceptor.accept(1, 1, 1, batch)?;
+    assert_eq!(rt; len as usize, leader.log().len());
+    Ok(leader.ack(node, len))
+}
+
 /// The second phase: the two adopt the log, and a batch is chosen once both have acked it.
 #[test]
 fn one_election_and_one_chosen_batch(rt: HostRuntime) -> Result<(), Fail> {
     let alloc = rt.alloc();
-    let (mut one, mut two) = (Acceptor::new(alloc, 1)?, Acceptor::new(alloc, 1)?);
+    let mut one = Acceptor::new(alloc, 1)?;
+    let mut two = Acceptor::new(alloc, 1)?;
     let mut leader = elected(&rt, alloc, &mut one, &mut two)?;
-    assert_eq!(rt; leader.log().len(), 1);
-    assert_eq!(rt; one.sync(1, 1, leader.log().copy(alloc)?), Ok(1));
-    assert_eq!(rt; two.sync(1, 1, leader.log().copy(alloc)?), Ok(1));
-    assert_eq!(rt; leader.ack(1, 1), 0);
-    assert_eq!(rt; leader.ack(2, 1), 1);
-    assert_eq!(rt; leader.propose(Bytes::from_slice(alloc, b"batch")?), Ok(1));
-    assert_eq!(rt; leader.log().len(), 2);
-    assert_eq!(rt;
-        one.accept(1, 1, 1, Bytes::from_slice(alloc, b"batch")?),
-        Ok(2)
-    );
-    assert_eq!(rt;
-        two.accept(1, 1, 1, Bytes::from_slice(alloc, b"batch")?),
-        Ok(2)
-    );
-    assert_eq!(rt; leader.ack(2, 2), 1);
-    assert_eq!(rt; leader.ack(1, 2), 2);
+    assert_eq!(rt; adopts(&rt, alloc, &mut leader, 1, &mut one)?, 0);
+    assert_eq!(rt; adopts(&rt, alloc, &mut leader, 2, &mut two)?, 1);
+    let slot = leader.propose(Bytes::from_slice(alloc, b"batch")?)?;
+    assert_eq!(rt; slot, 1);
+    assert_eq!(rt; accepts(&rt, alloc, &mut leader, 2, &mut two)?, 1);
+    assert_eq!(rt; accepts(&rt, alloc, &mut leader, 1, &mut one)?, 2);
     assert_eq!(rt; leader.chosen_len(), 2);
     assert_eq!(rt; leader.resend(3), Resend::Sync);
     Ok(())
