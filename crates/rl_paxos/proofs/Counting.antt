@@ -93,9 +93,9 @@ once_below nodes ps x h node out = omega (arith, not_all (has_promised ps) x nod
 pub counted_once : (nodes : ℕ) (ps : List Promise) (p : Promise) → EachOnce nodes ps → is_node nodes p.node ≡ true → has_promised ps p.node ≡ false → EachOnce nodes (ps ++ p ∷ [])
 counted_once nodes ps p h node out =
     let more : count (has_promised (ps ++ p ∷ [])) nodes ≡ count (has_promised ps) nodes + 1 =
-        one_more (has_promised ps) (has_promised (ps ++ p ∷ [])) p.node nodes (is_node_low nodes p.node node) (is_node_high nodes p.node node) out
-        (rw (any_append ps p p.node, out, eq-eqb p.node p.node refl) refl)
-        (λ a m. rw (any_append ps p a, ne_eqb p.node a (λ e. m (sym e))) (right_false (has_promised ps a))) in
+    one_more (has_promised ps) (has_promised (ps ++ p ∷ [])) p.node nodes (is_node_low nodes p.node node) (is_node_high nodes p.node node) out
+    (rw (any_append ps p p.node, out, eq-eqb p.node p.node refl) refl)
+    (λ a m. rw (any_append ps p a, ne_eqb p.node a (λ e. m (sym e))) (right_false (has_promised ps a))) in
     omega (arith, more, h, length-append ps (p ∷ []))
   where
     right_false : (b : Bool) → b ≡ (b || false)
