@@ -1,0 +1,9 @@
+pub mod Agree
+pub mod Choices
+pub mod Inv
+pub mod Led
+pub mod Prefixes
+pub mod Room
+pub mod Stays
+pub mod Steps
+pub mod Updates

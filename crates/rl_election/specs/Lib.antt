@@ -1,0 +1,4 @@
+pub mod Chosen
+pub mod Example
+pub mod Fits
+pub mod World

@@ -1,0 +1,13 @@
+-- Logs of batches. A batch is bytes, whose meaning plays no part here.
+use Rattle.std.specs.Prelude.{◌≡◌, ℕ, List, ◌++◌}
+
+abbrev pub Batch : Type 0
+Batch = List ℕ
+
+-- one batch for each slot; slots are numbered from 0
+abbrev pub Log : Type 0
+Log = List Batch
+
+-- one log begins the other
+abbrev pub IsPrefix : Log → Log → Type 0
+IsPrefix log longer = (rest : Log) × (log ++ rest ≡ longer)
