@@ -34,14 +34,14 @@ count() {
   fi
 }
 
+if ! command -v valgrind >/dev/null 2>&1 && ! perf stat -e instructions:u true >/dev/null 2>&1; then
+  echo "bench: skipped, since neither valgrind nor perf counts instructions here" >&2
+  exit 0
+fi
 echo "| requests | instructions | for each request |"
 echo "|---|---|---|"
 for requests in 500 1000 2000 4000 8000; do
   script "$requests" >"$work/in"
   instructions=$(count)
-  if [ -z "$instructions" ]; then
-    echo "bench: neither valgrind nor perf counts instructions here" >&2
-    exit 0
-  fi
   echo "| $requests | $instructions | $((instructions / requests)) |"
 done

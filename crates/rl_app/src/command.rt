@@ -17,7 +17,7 @@ const USAGE: &str =
     "usage: rolis serial, steps, sim, live, check, gen script S N W R, gen run S N W R\n";
 
 /// Does all that the program does: the one word `serial` is the command of this name, and all
-/// other words are status 2.
+/// other words are status 2 (6 where its line can't be written).
 ///
 /// Status 0 with the report; 2 where the words are no command, and then nothing is read; 3 where
 /// the input is no script; 4 where it has more than 4,194,304 bytes; 5 where a read failed; 6
@@ -43,7 +43,7 @@ pub fn rolis<S: Source, K: Sink>(
     ensures memory_line { result.code ≡ 7 → Wrote (K.held sink.old) (K.held sink.new) memory_line }
     ensures statuses { is_serial words.now ≡ true → IfSome (S.left source.old) (λ input. (result.code ≡ status_of input) ⊎ (result.code ≡ 5) ⊎ (result.code ≡ 6) ⊎ (result.code ≡ 7)) }
     ensures other_words { is_serial words.now ≡ false → (result.code ≡ 2) ⊎ (result.code ≡ 6) }
-    ensures unread { is_serial words.now ≡ false → S.left source.new ≡ S.left source.old }
+    ensures unread { is_serial words.now ≡ false → source.new ≡ source.old }
     ensures known { (result.code ≡ 0) ⊎ (result.code ≡ 2) ⊎ (result.code ≡ 3) ⊎ (result.code ≡ 4) ⊎ (result.code ≡ 5) ⊎ (result.code ≡ 6) ⊎ (result.code ≡ 7) }
 {
     if is_serial(words) {

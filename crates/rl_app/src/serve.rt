@@ -10,7 +10,8 @@ use rl_io::sink::{Sink, write_whole};
 use rl_script::fault::Kind;
 use std::alloc::Global;
 
-/// How a call ended: 0 for its output, else the number of the one line that it wrote.
+/// How a call ended: 0 where its output is written, 6 where a write failed and a front of its text
+/// is written, and else the number of the one line that it wrote.
 #[derive(Clone, Copy, Debug, PartialEq, Eq)]
 pub struct Status {
     pub code: u8,

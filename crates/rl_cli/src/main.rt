@@ -2,23 +2,29 @@
 #![tactic(auto)]
 
 use rl_app::command::rolis;
+use rl_app::serve::{Status, deliver};
 use rl_io::standard_sink::StdSink;
 use rl_io::standard_source::StdSource;
+use std::alloc::AllocError;
 use std::env;
+use std::io::ErrorKind;
 use std::process::ExitCode;
 
-/// The words after the program's name, if there is memory for them.
-fn words(rt: &HostRuntime) -> Option<Vec<String>> {
-    env::args(rt).ok()?.skip(1).collect(rt.alloc()).ok()
+/// The words after the program's name. Words that are no text are none that a command has.
+fn words(rt: &HostRuntime) -> Result<Vec<String>, AllocError> {
+    match env::args(rt) {
+        Ok(args) => args.skip(1).collect(rt.alloc()),
+        Err(e) if e.kind() == ErrorKind::InvalidData => Ok(Vec::new(rt.alloc())),
+        Err(_) => Err(AllocError),
+    }
 }
 
 fn main(rt: HostRuntime) -> ExitCode {
     let mut source = StdSource::new(rt.stdin());
     let mut sink = StdSink::new(rt.stdout());
-    let Some(words) = words(&rt) else {
-        let _ = println!(rt; "memory");
-        return ExitCode::from(7);
+    let status = match words(&rt) {
+        Ok(words) => rolis(rt.alloc(), words.as_slice(), &mut source, &mut sink),
+        Err(AllocError) => deliver(&mut sink, Status { code: 7 }, b"memory\n"),
     };
-    let status = rolis(rt.alloc(), words.as_slice(), &mut source, &mut sink);
     ExitCode::from(status.code)
 }

@@ -10,11 +10,12 @@ pub fn rest_from(bytes: &[u8], at: usize) -> &[u8]
     &bytes[at..]
 }
 
-/// Puts the first bytes at the front of a buffer.
+/// Puts the first bytes at the front of a buffer, and leaves the rest of it.
 pub fn copy_front(buf: &mut [u8], bytes: &[u8], count: usize)
     requires fits { count ≤ length buf.old }
     requires there { count ≤ length bytes.now }
-    ensures { take count buf.new ≡ take count bytes.now }
+    ensures front { take count buf.new ≡ take count bytes.now }
+    ensures rest { drop count buf.new ≡ drop count buf.old }
 {
     buf[..count].copy_from_slice(&bytes[..count]);
 }

@@ -276,7 +276,7 @@ impl Draft {
         }
     }
 
-    /// A line after the first.
+    /// A line after the first. After an error the draft is of no use.
     #[tactic(auto, unfolding(crate::specs::Read::read_line))]
     pub fn line(&mut self, alloc: Global, line: &[u8]) -> Result<(), LineError>
         requires fits { DraftFits self.old }

@@ -151,7 +151,7 @@ impl LineError {
 #[derive(Clone, Copy, Debug, PartialEq, Eq, Error)]
 pub enum ParseError {
     /// The first line that breaks a rule, and which rule. So far each is line 0 and `Later`.
-    #[error("fault line {line}")]
+    #[error("fault line {line} {kind:?}")]
     Fault { line: u32, kind: Kind },
     /// There was no memory left.
     #[error("memory")]
