@@ -53,7 +53,7 @@ in_order (r ∷ rows) h (suc k) d z l = rw next (in_order rows (second _ _ h) k 
     next : suc k + 1 ≡ suc (k + 1)
     next = omega arith
 
-same_place : (p q : ℕ × ℕ) → place_cmp p q ≡ Equal → p ≡ q
+pub same_place : (p q : ℕ × ℕ) → place_cmp p q ≡ Equal → p ≡ q
 same_place p q e = exact_pairs nat_cmp nat_cmp exact_unsigned exact_unsigned p q e
 
 -- what a binary search answers

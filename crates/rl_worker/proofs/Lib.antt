@@ -1,0 +1,15 @@
+pub mod Acts
+pub mod Basics
+pub mod Inv
+pub mod Keeps
+pub mod Lift
+pub mod Local
+pub mod Numbers
+pub mod Places
+pub mod Serial
+pub mod Settled
+pub mod Stamps
+pub mod States
+pub mod Whole
+pub mod Words
+pub mod Writes

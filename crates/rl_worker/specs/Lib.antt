@@ -1,0 +1,4 @@
+pub mod Acts
+pub mod Items
+pub mod Opening
+pub mod Phases
