@@ -1,5 +1,6 @@
 pub mod Acts
 pub mod Basics
+pub mod Histories
 pub mod Inv
 pub mod Keeps
 pub mod Lift
@@ -7,6 +8,7 @@ pub mod Local
 pub mod Numbers
 pub mod Places
 pub mod Serial
+pub mod Settings
 pub mod Settled
 pub mod Stamps
 pub mod States

@@ -14,10 +14,9 @@ use Rattle.rl_txn.specs.Serial.{numbered}
 use Rattle.rl_txn.specs.declared.op.Op.{Op}
 use Rattle.rl_txn.specs.declared.eval.Wants as eval
 use Rattle.rl_txn.specs.declared.eval.Wants.TheVariants.{Read as WantsRead, Ended as WantsEnded}
-use Rattle.rl_txn.specs.declared.write.End.TheVariants.{Done}
 use Rattle.rl_txn.specs.declared.write.Write.{Write}
 use Rattle.rl_txn.specs.declared.item.Item as txn
-use Rattle.rl_worker.specs.Phases.{Answer, Read, Install, Rec, Outcome, Wants, Ends, Phase, Rest, Setting}
+use Rattle.rl_worker.specs.Phases.{Read, Install, Rec, Outcome, Wants, Ends, Phase, Rest, Setting}
 use Rattle.rl_worker.specs.Items.{Item}
 use Rattle.rl_worker.specs.Acts.{Core, Turn, no_rec, opening, run as run_core}
 
@@ -54,11 +53,9 @@ outcome tables txn reads = outcome_of tables txn reads (wants tables txn (overla
 abbrev pub request : List (List (List Op)) → ℕ → ℕ → Option (List Op)
 request lists w q = option_and_then (λ list. numbered list q) (numbered lists w)
 
-abbrev pub no_answer : Answer
-no_answer = (record { outs = []; end = Done }, [])
-
+-- a worker begins no request that is not there; such a one would never end
 abbrev pub asks : List Table → List (List (List Op)) → ℕ → ℕ → List Read → Outcome
-asks tables lists w q reads = option_map_or (λ txn. outcome tables txn reads) (request lists w q) (Ends no_answer [])
+asks tables lists w q reads = option_map_or (λ txn. outcome tables txn reads) (request lists w q) (Wants 0)
 
 -- a record as it opens: the stamp of its last write, or 0, and its row
 abbrev pub opening_rec : List Table → Rows → List ℕ → ℕ → Rec
