@@ -5,6 +5,7 @@ pub mod Inv
 pub mod Keeps
 pub mod Lift
 pub mod Local
+pub mod Made
 pub mod Numbers
 pub mod Places
 pub mod Serial

@@ -169,3 +169,10 @@ rests_from (x ∷ xs) (suc w) = rests_from xs w
 pub rests_at : (firsts : List ℕ) → RestAt (first_of firsts) (at_rest firsts)
 rests_at firsts zero l = refl
 rests_at firsts (suc w) l = rests_from firsts w
+
+all_rest_from : (firsts : List ℕ) → AllRest (map Rest firsts)
+all_rest_from [] = 0
+all_rest_from (x ∷ xs) = (refl, all_rest_from xs)
+
+pub all_at_rest : (firsts : List ℕ) → AllRest (at_rest firsts)
+all_at_rest firsts = (refl, all_rest_from firsts)

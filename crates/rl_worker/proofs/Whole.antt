@@ -13,6 +13,10 @@ use Rattle.rl_worker.proofs.Words.{none_some, both}
 use Rattle.rl_txn.specs.declared.write.End.TheVariants.{Done}
 use Rattle.rl_worker.proofs.Numbers.{Numbered, Latest, micro_numbered, idle_numbered, opening_numbered, in_lists}
 
+-- a worker that may move is there
+pub there : (S : Setting) (c : Core) (w : ℕ) → may S c w ≡ true → w < length c.workers
+there S c w h = test_lt w (length c.workers) (both (nat_lt w (length c.workers)) (nat_lt c.next S.last) (both (nat_lt 0 w) (nat_lt w (length c.workers) && nat_lt c.next S.last) h).1).0
+
 module _ (S : Setting) (L : Lawful S) (first : ℕ → ℕ) where
   pub record Fine (c : Core) : Type 0 where
     pub good : Good S c
@@ -46,9 +50,6 @@ module _ (S : Setting) (L : Lawful S) (first : ℕ → ℕ) where
 
   step_kept : (c : Core) (w : ℕ) → w < length c.workers → Fine c → Fine (step S c w)
   step_kept c w h g = by_test (λ z. Fine z) (is_done S w (phase_of c w)) c (step_on S c w) (λ t. g) (λ t. step_on_kept c w h g)
-
-  there : (c : Core) (w : ℕ) → may S c w ≡ true → w < length c.workers
-  there c w h = test_lt w (length c.workers) (both (nat_lt w (length c.workers)) (nat_lt c.next S.last) (both (nat_lt 0 w) (nat_lt w (length c.workers) && nat_lt c.next S.last) h).1).0
 
   idle_inv : (σ : State) → Inv S σ → Inv S (record { recs = σ.recs; workers = σ.workers; log = σ.log; next = suc σ.next })
   idle_inv σ inv =
@@ -96,7 +97,7 @@ module _ (S : Setting) (L : Lawful S) (first : ℕ → ℕ) where
       (λ t. g)
 
   turn_kept : (c : Core) (t : Turn) → Fine c → Fine (turn S c t)
-  turn_kept c (Step w) g = by_test (λ z. Fine z) (may S c w) (step S c w) c (λ t. step_kept c w (there c w t) g) (λ t. g)
+  turn_kept c (Step w) g = by_test (λ z. Fine z) (may S c w) (step S c w) c (λ t. step_kept c w (there S c w t) g) (λ t. g)
   turn_kept c (Idle w) g = by_test (λ z. Fine z) (may S c w) (idle c w) c
       (λ t. record { good = idle_kept c w g.good; numbered = idle_numbered first c w g.numbered }) (λ t. g)
 

@@ -270,3 +270,17 @@ Above t (Refusing q todo) = ℕ
 
 abbrev pub IsSettled : ℕ → Core → Type 0
 IsSettled t c = (t < c.next) × ((w : ℕ) → Above t (phase_of c w))
+
+-- one worker's stamps, over its items and idle draws, the latest first
+abbrev pub stamps_by : ℕ → List (ℕ × ℕ) → List ℕ
+stamps_by w [] = []
+stamps_by w (x ∷ xs) = if x.0 == w then x.1 ∷ stamps_by w xs else stamps_by w xs
+
+abbrev pub AllUnder : ℕ → List ℕ → Type 0
+AllUnder t [] = ℕ
+AllUnder t (x ∷ xs) = (x < t) × AllUnder t xs
+
+-- each is above all that were made before it
+abbrev pub IsFalling : List ℕ → Type 0
+IsFalling [] = ℕ
+IsFalling (x ∷ xs) = AllUnder x xs × IsFalling xs
