@@ -1,11 +1,11 @@
 -- Sums of the sizes of tables, and the places of records.
-use Rattle.std.proofs.Common.{◌≡◌, ℕ, ◌+◌, ◌-◌, ◌<◌, ◌≤◌, List, [], ◌∷◌, ◌++◌, length, map, sum, take, drop, get_or, slice_index, nat_lt, true, false, refl, ap, sym, ◌∙◌, subst, zero, suc, arith}
+use Rattle.std.proofs.Common.{◌≡◌, ℕ, ◌+◌, ◌-◌, ◌<◌, ◌≤◌, List, [], ◌∷◌, ◌++◌, length, sum, take, drop, get_or, slice_index, refl, ap, sym, ◌∙◌, zero, suc, arith}
 use Rattle.std.proofs.lemmas.Bool.Decides.{nat_tests}
 use Rattle.std.proofs.lemmas.List.{take_more, length-map}
 use Rattle.std.proofs.lemmas.List.Sums.{sum-map, sum_by_more_le}
 use Rattle.std.proofs.Math.Seq.{drop-cons}
-use Rattle.rl_value.specs.Tables.{Table, IsSchema, size_of, record_count}
-use Rattle.rl_tables.specs.Numbers.{sizes_of, record_of, place_from, place_of, IsPlace}
+use Rattle.rl_value.specs.Tables.{Table, IsSchema, size_of}
+use Rattle.rl_tables.specs.Numbers.{sizes_of, place_from}
 
 -- the records of a table come within those of all
 pub sum_before : (sizes : List ℕ) (t : ℕ) → t < length sizes → sum (take t sizes) + slice_index sizes t ≤ sum sizes

@@ -1,5 +1,5 @@
 -- An evaluation on its way: the rows that it was given say as much as any rows that have them.
-use Rattle.std.proofs.Common.{◌≡◌, ℕ, ◌+◌, ◌-◌, ◌%◌, ◌^◌, ◌<◌, ◌≤◌, min, List, [], ◌∷◌, ◌++◌, length, map, take, drop, filter, get_or, slice_get, Bool, true, false, not, ◌&&◌, ◌||◌, cond, if◌then◌else◌, is_some, nat_lt, nat_le, Option, Some, None, IfSome, IfNone, vec_capacity, refl, ap, sym, ◌∙◌, subst, zero, suc, arith, sum_by, append_assoc, append-nil, inl, inr, ◌⊎◌}
+use Rattle.std.proofs.Common.{◌≡◌, ℕ, ◌+◌, ◌%◌, ◌^◌, ◌<◌, ◌≤◌, min, List, [], ◌∷◌, ◌++◌, length, take, drop, filter, get_or, slice_get, Bool, true, false, not, ◌&&◌, ◌||◌, cond, if◌then◌else◌, is_some, nat_lt, nat_le, Option, Some, None, IfSome, IfNone, vec_capacity, refl, ap, sym, ◌∙◌, subst, zero, suc, arith, sum_by, append_assoc, inl, inr, ◌⊎◌}
 use mathlib.Core.Bool.{false≢true}
 use Rattle.std.specs.Option.{option_map_or}
 use Rattle.std.specs.List.{find, range_with_len, list_any}
@@ -9,8 +9,8 @@ use Rattle.std.proofs.Math.ListN.{drop_of_length-le}
 use Rattle.std.proofs.lemmas.List.Sums.{sum_by-cons, sum_by-take-drop}
 use Rattle.rl_value.specs.Rows.{Rows, place_cmp}
 use Rattle.rl_value.specs.Tables.{Table, size_of}
-use Rattle.rl_txn.specs.Run.{Overlay, row_seen, column_of, scan_sum, only_if, with_reg, value_of, op_done, passes, ops_done, beginning, run}
-use Rattle.rl_txn.specs.Eval.{rows_of, HasRows, is_new, unknown, places, places_read, reads_at_most, read_by, progress_of, UsesRoom, wants, known, IsOnWay, AreKnown, AllKnown, IsNext, IsAsked, HasRoom, IsEval}
+use Rattle.rl_txn.specs.Run.{Overlay, row_seen, column_of, only_if, with_reg, value_of, op_done, passes, ops_done, beginning, run}
+use Rattle.rl_txn.specs.Eval.{rows_of, HasRows, is_new, unknown, places, places_read, reads_at_most, read_by, progress_of, UsesRoom, wants, known, IsOnWay, AreKnown, AllKnown, IsNext, IsAsked, IsEval}
 use Rattle.rl_txn.specs.declared.op.Op.{Op}
 use Rattle.rl_txn.specs.declared.op.Op.TheVariants.{Set, Add, Sub, Mul, Get, Has, Put, Del, Scan, Need, Skip, Out}
 use Rattle.rl_txn.specs.declared.progress.Progress.{Progress}

@@ -1,15 +1,14 @@
 -- What is known of the rows that were read.
 use Rattle.std.proofs.lemmas.List.{take_more, take_more_set, length-map}
-use Rattle.std.proofs.Common.{set, ◌≡◌, ℕ, ◌+◌, ◌-◌, ◌<◌, ◌≤◌, List, [], ◌∷◌, ◌++◌, length, map, take, drop, filter, get_or, slice_get, Bool, true, false, not, ◌&&◌, cond, is_some, Option, Some, None, IfSome, refl, ap, sym, ◌∙◌, subst, zero, suc, arith}
+use Rattle.std.proofs.Common.{set, ◌≡◌, ℕ, ◌+◌, ◌<◌, ◌≤◌, List, [], ◌∷◌, ◌++◌, length, map, take, get_or, Bool, true, false, cond, Option, Some, None, refl, ap, sym, ◌∙◌, zero, suc, arith}
 use Rattle.std.specs.Option.{option_map_or}
-use Rattle.std.specs.List.{find, range_with_len}
 use Rattle.std.specs.FinMap as finite
 use Rattle.std.specs.FinMap.Entries as entries
 use Rattle.std.specs.Ordering.{eq_by_cmp}
 use Rattle.rl_value.specs.Rows.{Rows, place_cmp}
 use Rattle.rl_txn.specs.Run.{Overlay, row_seen}
 use Rattle.rl_txn.specs.Serial.{put_or_remove}
-use Rattle.rl_txn.specs.Eval.{rows_from, rows_of, HasRows, is_new, unknown, places}
+use Rattle.rl_txn.specs.Eval.{rows_from, rows_of}
 use Rattle.rl_txn.proofs.RowSets.{places_total}
 
 -- a row after a write, which makes it or takes it away

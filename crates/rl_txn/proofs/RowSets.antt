@@ -1,10 +1,10 @@
 -- Searches in rows that are in order, and edits of them.
-use Rattle.std.proofs.Common.{IsOk, OnOk, ◌≡◌, ℕ, ◌+◌, ◌-◌, ◌<◌, ◌≤◌, List, [], ◌∷◌, ◌++◌, length, map, set, get_or, take, drop, Bool, true, false, T, cond, ◌&&◌, Option, Some, None, Result, Ok, Err, IfOk, IfErr, refl, ap, sym, ◌∙◌, subst, zero, suc, arith, is_some}
+use Rattle.std.proofs.Common.{IsOk, OnOk, ◌≡◌, ℕ, ◌+◌, ◌<◌, ◌≤◌, List, [], ◌∷◌, length, map, set, get_or, Bool, true, false, T, ◌&&◌, Option, Some, None, Result, Ok, Err, IfOk, IfErr, refl, ap, sym, ◌∙◌, subst, zero, suc, arith}
 use Rattle.std.specs.List.{insert, refill}
 use Rattle.std.proofs.Math.ListN.{length-set}
 use Rattle.std.proofs.lemmas.Grind.{common_steps}
-use Rattle.std.specs.List.Sorted.{IsSearchInRange, IsBinarySearchResult, IsNonDecreasingBy, IsPartitionPoint}
-use Rattle.std.specs.Ordering.{nat_cmp, ordering_index, is_lt, is_eq, eq_by_cmp, ordering_reverse}
+use Rattle.std.specs.List.Sorted.{IsBinarySearchResult, IsPartitionPoint}
+use Rattle.std.specs.Ordering.{nat_cmp, is_lt, ordering_reverse}
 use Rattle.std.specs.declared.cmp.Ordering.{Ordering}
 use Rattle.std.specs.declared.cmp.Ordering.TheVariants.{Less, Equal, Greater}
 use Rattle.std.specs.Cmp.{IsTotalOrder, nat_cmp_total, tied_itself}
@@ -13,11 +13,10 @@ use Rattle.std.proofs.lemmas.Map.Lookups.{exact_pairs, exact_unsigned}
 use Rattle.std.proofs.lemmas.List.Sorted.{searchable_from_sorted}
 use mathlib.Core.Bool.{false≢true}
 use Rattle.std.specs.FinMap as finite
-use Rattle.std.specs.FinMap.Entries.{put, find, is_sorted, below_all, is_sorted-put, by_order}
+use Rattle.std.specs.FinMap.Entries.{put, find, is_sorted, below_all, is_sorted-put}
 use Rattle.rl_value.specs.Rows.{place_cmp}
-use Rattle.rl_txn.specs.Run.{Overlay, write_of}
+use Rattle.rl_txn.specs.Run.{write_of}
 use Rattle.rl_txn.specs.declared.row_set.RowAt.{RowAt}
-use Rattle.rl_txn.specs.declared.write.Write.{Write}
 use Rattle.rl_txn.specs.RowSets.{place_at, entry_of, IsInOrder, rows_at}
 
 pub places_total : IsTotalOrder place_cmp

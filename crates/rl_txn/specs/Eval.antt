@@ -3,9 +3,9 @@ use Rattle.std.specs.Prelude.{◌≡◌, ℕ, ◌+◌, ◌<◌, ◌≤◌, Bool,
 use Rattle.std.specs.Option.{option_map_or}
 use Rattle.std.specs.List.{range_with_len, find, list_any}
 use Rattle.std.specs.FinMap as finite
-use Rattle.rl_value.specs.Rows.{Rows, place_cmp}
+use Rattle.rl_value.specs.Rows.{Rows}
 use Rattle.rl_value.specs.Tables.{Table, size_of}
-use Rattle.rl_txn.specs.Run.{Overlay, value_of, op_done, passes, beginning, ops_done, run, Leaves}
+use Rattle.rl_txn.specs.Run.{Overlay, value_of, op_done, passes, beginning, ops_done, run}
 use Rattle.rl_txn.specs.Serial.{put_or_remove}
 use Rattle.rl_txn.specs.declared.op.Op.{Op}
 use Rattle.rl_txn.specs.declared.op.Op.TheVariants.{Get, Has, Scan}

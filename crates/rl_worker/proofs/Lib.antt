@@ -8,6 +8,7 @@ pub mod Local
 pub mod Made
 pub mod Numbers
 pub mod Places
+pub mod Scripts
 pub mod Serial
 pub mod Settings
 pub mod Settled

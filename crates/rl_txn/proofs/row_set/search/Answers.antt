@@ -1,6 +1,5 @@
 use Rattle.std.proofs.Common.{rules}
 use Rattle.std.proofs.lemmas.List.Sorted.{answers_always}
-use Rattle.rl_value.specs.Rows.{place_cmp}
 use Rattle.rl_txn.specs.RowSets.{place_at}
 use Rattle.rl_txn.proofs.RowSets.{searched}
 use Rattle.rl_txn.proofs.row_set.search.Goals as goal

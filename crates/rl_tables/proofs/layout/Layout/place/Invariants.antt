@@ -1,4 +1,4 @@
-use Rattle.std.proofs.Common.{◌≡◌, ◌+◌, ◌<◌, drop, sum, take}
+use Rattle.std.proofs.Common.{◌≡◌, ◌+◌, drop, sum, take}
 use Rattle.rl_tables.specs.Numbers.{place_from, place_of}
 use Rattle.rl_tables.proofs.layout.Layout.place.Given as goal
 

@@ -1,7 +1,7 @@
-use Rattle.std.proofs.Common.{◌≡◌, ◌+◌, sym, ap, ◌∙◌, subst, refl, drop, ◌∷◌, suc, Some, length, min}
+use Rattle.std.proofs.Common.{◌≡◌, ◌+◌, sym, ap, ◌∙◌, subst, length, min}
 use Rattle.rl_value.specs.Rows.{Rows}
 use Rattle.rl_txn.specs.Run.{ops_done, beginning}
-use Rattle.rl_txn.specs.Eval.{IsEval, IsAsked, HasRows, progress_of}
+use Rattle.rl_txn.specs.Eval.{IsEval, HasRows, progress_of}
 use Rattle.rl_txn.specs.declared.workspace.Workspace.{Workspace}
 use Rattle.rl_txn.specs.declared.write.End.TheVariants.{Declined}
 use Rattle.rl_txn.proofs.Evals.{after_op, declined, rest_at}

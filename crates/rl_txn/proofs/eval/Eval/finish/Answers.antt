@@ -1,9 +1,6 @@
-use Rattle.std.proofs.Common.{◌≡◌, rules, ap, sym, ◌∙◌, Some, List}
+use Rattle.std.proofs.Common.{◌≡◌, rules, ap, sym, ◌∙◌, Some}
 use Rattle.rl_txn.specs.Run.{writes_of}
 use Rattle.rl_txn.specs.Eval.{progress_of}
-use Rattle.rl_txn.specs.declared.write.Write.{Write}
-use Rattle.rl_txn.specs.declared.write.Reply.{Reply}
-use Rattle.rl_txn.specs.declared.write.End.{End}
 use Rattle.rl_txn.specs.declared.eval.Wants.TheVariants.{Ended}
 use Rattle.rl_txn.proofs.Evals.{finished, both_same}
 use Rattle.rl_txn.proofs.eval.Eval.finish.Goals as goal

@@ -1,4 +1,4 @@
-use Rattle.std.proofs.Common.{◌≡◌, rules, ap, ◌∙◌, Some}
+use Rattle.std.proofs.Common.{◌≡◌, rules, Some}
 use Rattle.rl_txn.specs.declared.eval.Wants.TheVariants.{Read}
 use Rattle.rl_txn.proofs.Evals.{gave}
 use Rattle.rl_txn.proofs.eval.Eval.give.Goals as goal

@@ -1,6 +1,4 @@
-use Rattle.std.proofs.Common.{◌≡◌, ◌+◌, ◌<◌, sym, ap, ◌∙◌, subst, refl, drop, ◌∷◌, suc, Some, length, arith}
-use Rattle.rl_txn.specs.Eval.{IsEval, IsAsked, AllKnown}
-use Rattle.rl_txn.specs.declared.eval.Eval.{Eval}
+use Rattle.std.proofs.Common.{◌<◌, arith}
 use Rattle.rl_txn.proofs.Evals.{more_known, known_all, next_is, rest_at, scanned_few, none_to_read, if_none}
 use Rattle.rl_txn.proofs.eval.Eval.next_wanted.Goals as goal
 

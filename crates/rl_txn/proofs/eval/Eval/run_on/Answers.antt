@@ -1,4 +1,4 @@
-use Rattle.std.proofs.Common.{◌≡◌, ◌≤◌, length, ap, sym, ◌∙◌, arith}
+use Rattle.std.proofs.Common.{◌≤◌, length, ap, ◌∙◌, arith}
 use Rattle.rl_txn.specs.Eval.{wants}
 use Rattle.rl_txn.proofs.Evals.{ended}
 use Rattle.rl_txn.proofs.eval.Eval.run_on.Goals as goal

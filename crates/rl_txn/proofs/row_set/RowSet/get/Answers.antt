@@ -1,4 +1,4 @@
-use Rattle.std.proofs.Common.{◌≡◌, ap, sym, ◌∙◌, Some}
+use Rattle.std.proofs.Common.{ap, sym, ◌∙◌, Some}
 use Rattle.std.specs.FinMap as finite
 use Rattle.rl_txn.specs.declared.row_set.RowAt.{RowAt}
 use Rattle.rl_txn.proofs.RowSets.{got_here, got_gap}

@@ -1,4 +1,4 @@
-use Rattle.std.proofs.Common.{◌≡◌, ◌≤◌, ◌++◌, [], length, map, vec_capacity, ap, sym, ◌∙◌, refl, subst, arith, append-nil}
+use Rattle.std.proofs.Common.{◌≡◌, ◌≤◌, ◌++◌, [], length, map, vec_capacity, ap, sym, ◌∙◌, refl, subst, append-nil}
 use Rattle.std.specs.FinMap as finite
 use Rattle.std.proofs.lemmas.List.{length-map}
 use Rattle.rl_txn.specs.Run.{write_of}

@@ -1,4 +1,4 @@
-use Rattle.std.proofs.Common.{◌≡◌, ◌+◌, ◌≤◌, ◌++◌, map, length, vec_capacity}
+use Rattle.std.proofs.Common.{◌≡◌, ◌≤◌, ◌++◌, map, length, vec_capacity}
 use Rattle.rl_txn.specs.Run.{write_of}
 use Rattle.rl_txn.specs.RowSets.{entry_of}
 use Rattle.rl_txn.proofs.row_set.RowSet.into_writes.Given as goal

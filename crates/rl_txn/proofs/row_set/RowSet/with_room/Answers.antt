@@ -1,5 +1,4 @@
-use Rattle.std.proofs.Common.{◌≡◌, ap, sym, ◌∙◌, [], refl}
-use Rattle.std.specs.FinMap as finite
+use Rattle.std.proofs.Common.{ap, ◌∙◌}
 use Rattle.rl_txn.specs.RowSets.{rows_at}
 use Rattle.rl_txn.proofs.RowSets.{no_rows}
 use Rattle.rl_txn.proofs.row_set.RowSet.with_room.Goals as goal

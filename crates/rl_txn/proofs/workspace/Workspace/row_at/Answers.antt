@@ -1,6 +1,4 @@
-use Rattle.std.proofs.Common.{◌≡◌, ap, sym, ◌∙◌, subst, None, Some}
-use Rattle.std.specs.Option.{option_map_or}
-use Rattle.rl_txn.specs.Eval.{rows_of}
+use Rattle.std.proofs.Common.{sym, ◌∙◌}
 use Rattle.rl_txn.proofs.Known.{seen_of_read, seen_of_none}
 use Rattle.rl_txn.proofs.workspace.Workspace.row_at.Goals as goal
 

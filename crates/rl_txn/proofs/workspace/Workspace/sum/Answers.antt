@@ -1,4 +1,4 @@
-use Rattle.std.proofs.Common.{◌≡◌, ◌+◌, ◌-◌, ◌%◌, ◌^◌, ◌≤◌, arith, ap, ◌∙◌}
+use Rattle.std.proofs.Common.{◌+◌, ◌%◌, ◌^◌, arith, ap, ◌∙◌}
 use Rattle.rl_txn.specs.Eval.{rows_of}
 use Rattle.rl_txn.proofs.Folds.{scan_more}
 use Rattle.rl_txn.proofs.workspace.Workspace.sum.Goals as goal

@@ -1,4 +1,4 @@
-use Rattle.std.proofs.Common.{◌≡◌, ◌-◌, ◌≤◌, ◌%◌, ◌^◌}
+use Rattle.std.proofs.Common.{◌≡◌, ◌-◌, ◌≤◌}
 use Rattle.rl_txn.specs.Run.{scan_sum}
 use Rattle.rl_txn.specs.Eval.{rows_of}
 use Rattle.rl_txn.proofs.workspace.Workspace.sum.Given as goal

@@ -1,4 +1,4 @@
-use Rattle.std.proofs.Common.{◌≡◌, ◌+◌, ◌≤◌, length, sym, refl, arith, subst}
+use Rattle.std.proofs.Common.{◌+◌, ◌≤◌, length, sym, refl, arith, subst}
 use Rattle.std.specs.FinMap as finite
 use Rattle.rl_txn.proofs.Known.{entries_insert}
 use Rattle.rl_txn.proofs.workspace.Workspace.write.Goals as goal
