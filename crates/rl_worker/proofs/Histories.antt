@@ -111,7 +111,7 @@ module _ (tables : List Table) where
   has_rows m rows s [] a q = subst (λ o. IfSome o (λ row. finite.get rows q ≡ row)) (sym (finite.get-empty place_cmp q)) tt
   has_rows m rows s (x ∷ xs) a q =
       subst (λ o. IfSome o (λ row. finite.get rows q ≡ row)) (sym (finite.get-insert places_total (overlay_of tables xs) (place_of (sizes_of tables) x.rec) (row_of x.row) q))
-        (go (eq_by_cmp place_cmp q (place_of (sizes_of tables) x.rec)) refl (has_rows m rows s xs a.1 q))
+      (go (eq_by_cmp place_cmp q (place_of (sizes_of tables) x.rec)) refl (has_rows m rows s xs a.1 q))
     where
       go : (b : Bool) → eq_by_cmp place_cmp q (place_of (sizes_of tables) x.rec) ≡ b → IfSome (finite.get (overlay_of tables xs) q) (λ row. finite.get rows q ≡ row)
           → IfSome (cond b (Some (row_of x.row)) (finite.get (overlay_of tables xs) q)) (λ row. finite.get rows q ≡ row)
@@ -119,11 +119,13 @@ module _ (tables : List Table) where
       go false e h = h
 
   stands_write : (m : ℕ → List ℕ) (rows : Rows) → Stands m rows → (w : Write) → WriteFits tables w → Stands (apply (install_of tables w ∷ []) m) (with_write rows w)
-  stands_write m rows s w f = record { row = λ r. elim (eqb_tells r (install_of tables w).rec) [
-    | inl i ↦ (let here : place_of (sizes_of tables) r ≡ (w.table, w.key) = ap (place_of (sizes_of tables)) i.1 ∙ place_of_write tables (size_at tables) (sizes_length tables) w f in
-        rw i.0 (row_cells (columns_of tables w.table) w.row ∙ sym (ap (finite.get (with_write rows w)) here ∙ get_after rows (w.table, w.key) w.row (w.table, w.key) ∙ ap (λ o. cond (is_eq o) w.row (finite.get rows (w.table, w.key))) (tied_itself places_total (w.table, w.key)))))
-    | inr n ↦ rw n.0 (s.row r ∙ sym (get_after rows (w.table, w.key) w.row (place_of (sizes_of tables) r) ∙ elsewhere r n.1 (eq_by_cmp place_cmp (place_of (sizes_of tables) r) (w.table, w.key)) refl))
-  ] }
+  stands_write m rows s w f = record {
+    row = λ r. elim (eqb_tells r (install_of tables w).rec) [
+      | inl i ↦ (let here : place_of (sizes_of tables) r ≡ (w.table, w.key) = ap (place_of (sizes_of tables)) i.1 ∙ place_of_write tables (size_at tables) (sizes_length tables) w f in
+          rw i.0 (row_cells (columns_of tables w.table) w.row ∙ sym (ap (finite.get (with_write rows w)) here ∙ get_after rows (w.table, w.key) w.row (w.table, w.key) ∙ ap (λ o. cond (is_eq o) w.row (finite.get rows (w.table, w.key))) (tied_itself places_total (w.table, w.key)))))
+      | inr n ↦ rw n.0 (s.row r ∙ sym (get_after rows (w.table, w.key) w.row (place_of (sizes_of tables) r) ∙ elsewhere r n.1 (eq_by_cmp place_cmp (place_of (sizes_of tables) r) (w.table, w.key)) refl))
+    ];
+  }
     where
       elsewhere : (r : ℕ) → r ≢ (install_of tables w).rec → (b : Bool) → eq_by_cmp place_cmp (place_of (sizes_of tables) r) (w.table, w.key) ≡ b
           → cond b w.row (finite.get rows (place_of (sizes_of tables) r)) ≡ finite.get rows (place_of (sizes_of tables) r)
@@ -146,8 +148,10 @@ module _ (tables : List Table) where
   stands_writes (w ∷ ws) f d m rows s =
       let x = install_of tables w in
       let later = stands_writes ws f.1 d.1 (apply (x ∷ []) m) (with_write rows w) (stands_write m rows s w f.0) in
-      record { row = λ r. ap row_of (sym (or_last (row_at r (map (install_of tables) ws)) (r == x.rec) x.row (m r)
-          (λ e. has_row r (map (install_of tables) ws) (none_here r e)))) ∙ later.row r }
+      record {
+        row = λ r. ap row_of (sym (or_last (row_at r (map (install_of tables) ws)) (r == x.rec) x.row (m r)
+            (λ e. has_row r (map (install_of tables) ws) (none_here r e)))) ∙ later.row r;
+      }
     where
       none_here : (r : ℕ) → (r == (install_of tables w).rec) ≡ true → has r (map (install_of tables) ws) ≡ false
       none_here r e = elim (eqb_tells r (install_of tables w).rec) [
@@ -157,10 +161,12 @@ module _ (tables : List Table) where
 
 module _ (tables : List Table) (lists : List (List (List Op))) (rows : Rows) (stamps : List ℕ) (epoch : ℕ) (fits : CoreFits tables lists rows stamps epoch) where
   pub stands_opening : Stands tables (λ r. (get_or (opening_recs tables rows stamps) r no_rec).cells) rows
-  stands_opening = record { row = λ r. elim (cases_lt r (sum (sizes_of tables))) [
-    | inl a ↦ ap (λ (x : Rec). row_of x.cells) (rec_at tables lists rows stamps epoch fits r a) ∙ row_cells _ _
-    | inr b ↦ ap (λ (x : Rec). row_of x.cells) (rec_past tables lists rows stamps epoch fits r b) ∙ sym (nothing r b (finite.get rows (place_of (sizes_of tables) r)) refl)
-  ] }
+  stands_opening = record {
+    row = λ r. elim (cases_lt r (sum (sizes_of tables))) [
+      | inl a ↦ ap (λ (x : Rec). row_of x.cells) (rec_at tables lists rows stamps epoch fits r a) ∙ row_cells _ _
+      | inr b ↦ ap (λ (x : Rec). row_of x.cells) (rec_past tables lists rows stamps epoch fits r b) ∙ sym (nothing r b (finite.get rows (place_of (sizes_of tables) r)) refl)
+    ];
+  }
     where
       nothing : (r : ℕ) → sum (sizes_of tables) ≤ r → (o : Option (List ℕ)) → finite.get rows (place_of (sizes_of tables) r) ≡ o → o ≡ None
       nothing r b None e = refl

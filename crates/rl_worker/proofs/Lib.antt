@@ -1,12 +1,14 @@
 pub mod Acts
 pub mod Basics
 pub mod Histories
+pub mod Installs
 pub mod Inv
 pub mod Keeps
 pub mod Lift
 pub mod Local
 pub mod Made
 pub mod Numbers
+pub mod Openings
 pub mod Places
 pub mod Scripts
 pub mod Serial
@@ -15,5 +17,4 @@ pub mod Settled
 pub mod Stamps
 pub mod States
 pub mod Whole
-pub mod Words
 pub mod Writes

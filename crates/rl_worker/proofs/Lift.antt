@@ -2,7 +2,7 @@
 use Rattle.std.proofs.Common.{◌≡◌, ◌≢◌, ◌⊎◌, ℕ, zero, suc, ◌+◌, ◌-◌, ◌<◌, ◌≤◌, List, [], ◌∷◌, ◌++◌, length, get_or, take, set, Bool, true, false, not, ◌==◌, nat_lt, ◌&&◌, if◌then◌else◌, Option, Some, None, refl, sym, ap, ◌∙◌, subst, arith, inl, inr, true≢false, eqb-true, append_assoc, append-nil, get_or-set_other, get_or-set_same, length-set, eq-eqb}
 use Rattle.std.proofs.lemmas.List.{get_or_past}
 use Rattle.std.proofs.lemmas.Bool.{cases_lt}
-use Rattle.rl_worker.proofs.Words.{none_some, some_same}
+use Rattle.rl_worker.proofs.Installs.{none_some, some_same}
 use Rattle.rl_worker.proofs.Inv.{held, Distinct}
 use Rattle.std.proofs.lemmas.Bool.Decides.{eqb_tells, nat_tests}
 use Rattle.std.proofs.lemmas.Grind.{common_steps}
@@ -13,7 +13,7 @@ use Rattle.rl_worker.specs.Acts.{IsTrueCause, AllTrue, Cause, Locked, Changed, R
 use Rattle.rl_worker.proofs.Basics.{upd_same, upd_other, by_upd}
 use Rattle.rl_worker.proofs.Inv.{Inv, Knows}
 use Rattle.rl_worker.proofs.Local.{Lawful, begin_inv, give_up_inv, give_up_load_inv, ask_inv, first_load_inv, column_load_inv, confirm_inv, lock_refused_inv, validate_inv, rest_inv, released_inv}
-use Rattle.rl_worker.proofs.Words.{lock_inv, store_inv, free_inv, close_inv}
+use Rattle.rl_worker.proofs.Installs.{lock_inv, store_inv, free_inv, close_inv}
 use Rattle.rl_worker.proofs.Stamps.{alone_now, draw_inv, decide_inv, void_inv}
 use Rattle.rl_worker.proofs.Acts.{by_test, test_lt, test_ge}
 use Rattle.rl_worker.proofs.Serial.{item, items_from, items_decided, items_drawn, items_voided, all_serial, items_rise}

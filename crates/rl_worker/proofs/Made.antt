@@ -9,7 +9,6 @@ use Rattle.rl_worker.proofs.Basics.{by_upd, upd_same, upd_other}
 use Rattle.rl_worker.proofs.Acts.{by_test, test_lt, test_ge}
 use Rattle.rl_worker.proofs.Lift.{set_reads}
 
-
 -- a drawn stamp is above what this worker has made
 abbrev pub DrawnAbove : Phase → List ℕ → ℕ → Type 0
 DrawnAbove (Rest q) xs n = ℕ

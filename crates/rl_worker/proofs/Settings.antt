@@ -113,7 +113,7 @@ module _ (tables : List Table) (lists : List (List (List Op))) (rows : Rows) (st
       let r = record_of (sizes_of tables) w.table w.key in
       let place : place_of (sizes_of tables) r ≡ (w.table, w.key) = place_of_write tables (size_at tables) (sizes_length tables) w f in
       let cells : (get_or recs r no_rec).cells ≡ cells_of (columns_of tables w.table) (finite.get rows (w.table, w.key)) =
-          ap (λ (x : Rec). x.cells) (rec_at r (write_within w f)) ∙ ap (λ (p : ℕ × ℕ). cells_of (columns_of tables p.0) (finite.get rows p)) place in
+      ap (λ (x : Rec). x.cells) (rec_at r (write_within w f)) ∙ ap (λ (p : ℕ × ℕ). cells_of (columns_of tables p.0) (finite.get rows p)) place in
       cell_length tables (columns_of tables w.table) w.row f.2 ∙ sym (ap length cells ∙ cell_length tables (columns_of tables w.table) (finite.get rows (w.table, w.key)) (row_here w.table w.key))
 
   widths : (ws : List Write) → WritesFit tables ws → Widths S (map (install_of tables) ws)
@@ -135,9 +135,10 @@ module _ (tables : List Table) (lists : List (List (List Op))) (rows : Rows) (st
         let d = ending tables lists w q reads answer writes e in
         let txn_fits = request_fits tables lists fits.lists_fit w q d.txn d.is in
         let own = rows_of (overlay_of tables reads) in
-        let are : writes ≡ map (install_of tables) (run tables d.txn own).1 = d.writes_are ∙ ap (λ (a : Answer). map (install_of tables) a.1) d.answer_is in
-        (subst Distinct (sym are) (run_distinct tables (size_at tables) (sizes_length tables) d.txn own txn_fits),
-         subst (Widths S) (sym are) (widths (run tables d.txn own).1 (run_fits tables d.txn own txn_fits)));
+        let are : writes ≡ map (install_of tables) (run tables d.txn own).1 = d.writes_are ∙ ap (λ (a : Answer). map (install_of tables) a.1) d.answer_is in (
+          subst Distinct (sym are) (run_distinct tables (size_at tables) (sizes_length tables) d.txn own txn_fits),
+          subst (Widths S) (sym are) (widths (run tables d.txn own).1 (run_fits tables d.txn own txn_fits)),
+        );
   }
 
   all_free : (rs : List ℕ) → AllFree (map (opening_rec tables rows stamps) rs)

@@ -4,7 +4,7 @@ use Rattle.std.proofs.lemmas.Bool.Decides.{nat_tests}
 use Rattle.rl_worker.proofs.States.{Answer, Read, Install, Rec, Outcome, Wants, Ends, Phase, Rest, Asking, Wanting, Loading, Locking, Validating, Storing, Refusing, Setting, asked, other, upd}
 use Rattle.rl_worker.specs.Items.{Item, place, early}
 use Rattle.rl_worker.specs.Acts.{Event, Quiet, Drew, Won, Lost, LostDrawn, Moved, target, first_load_of, confirm_of, lock_of, moved, Core, no_rec, next_after, decided_after, after, phase_of, micro_at, micro, passing, resting, settle, begin, step, step_on, is_done, may, idle, Turn, Step, Idle, turn, run, Above, IsSettled}
-use Rattle.rl_worker.proofs.Words.{both}
+use Rattle.rl_worker.proofs.Installs.{both}
 use Rattle.rl_worker.proofs.Basics.{by_upd}
 use Rattle.rl_worker.proofs.Acts.{by_test, test_lt}
 use Rattle.rl_worker.proofs.Lift.{set_reads}

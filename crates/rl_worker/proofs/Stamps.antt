@@ -6,7 +6,7 @@ use Rattle.rl_worker.proofs.Inv.{held, stores, pending, settled_by, settled, Dis
 use Rattle.rl_worker.proofs.Basics.{upd_same, upd_other, by_upd, has_dec}
 use Rattle.rl_worker.proofs.Keeps.{Keeps, knows_kept, final_kept, reads_kept, seen_kept, all_alone_kept}
 use Rattle.rl_worker.proofs.Local.{decided_lives, settled_goes, Lawful}
-use Rattle.rl_worker.proofs.Words.{knows_all, pending_holds, both, some_same, none_some, stored_none}
+use Rattle.rl_worker.proofs.Installs.{knows_all, pending_holds, both, some_same, none_some, stored_none}
 
 pub settled_less : (ws : ℕ → Phase) (w : ℕ) (p : Phase) (h : Option ℕ) (r : ℕ) → stores (ws w) r ≡ false → settled_by (upd ws w p) h r ≡ true → settled_by ws h r ≡ true
 settled_less ws w p None r e = λ s. refl

@@ -9,7 +9,7 @@ use Rattle.rl_worker.proofs.Local.{decided_lives}
 use Rattle.rl_worker.proofs.Acts.{by_test, test_lt}
 use Rattle.rl_worker.proofs.Serial.{items_from, items_idle, all_serial, items_rise}
 use Rattle.rl_worker.proofs.Lift.{Good, lift, micro_good, same_state}
-use Rattle.rl_worker.proofs.Words.{none_some, both}
+use Rattle.rl_worker.proofs.Installs.{none_some, both}
 use Rattle.rl_txn.specs.declared.write.End.TheVariants.{Done}
 use Rattle.rl_worker.proofs.Numbers.{Numbered, Latest, micro_numbered, idle_numbered, opening_numbered, in_lists}
 

@@ -156,8 +156,8 @@ module _ (tables : List Table) where
     no_record e [] f h b = refl
     no_record e (x ∷ es) f h b = elim (eqb_tells (install_of tables (write_of e)).rec (install_of tables (write_of x)).rec) [
       | inl i ↦ (
-        let same : e.0 ≡ x.0 = sym (place_of_write (write_of e) f) ∙ ap (place_of (sizes_of tables)) i.1 ∙ place_of_write (write_of x) h.0 in
-        absurd (not_less (sym (less (place_cmp e.0 x.0) (first _ _ b)) ∙ ap (place_cmp e.0) (sym same) ∙ tied_itself places_total e.0)))
+          let same : e.0 ≡ x.0 = sym (place_of_write (write_of e) f) ∙ ap (place_of (sizes_of tables)) i.1 ∙ place_of_write (write_of x) h.0 in
+          absurd (not_less (sym (less (place_cmp e.0 x.0) (first _ _ b)) ∙ ap (place_cmp e.0) (sym same) ∙ tied_itself places_total e.0)))
       | inr n ↦ rw n.0 (no_record e es f h.1 (second _ _ b))
     ]
 

@@ -26,5 +26,4 @@ pub fn core_serial()
         → (w : ℕ) → IsFalling (stamps_by w (core_after tables lists rows stamps epoch firsts turns).made) }
     ensures settled { (tables : List Table) (lists : List (List (List Op))) (rows : Rows) (stamps : List ℕ) (epoch : ℕ) (core : Core) (t : ℕ) (turns : List Turn) → IsSettled t core
         → early t (run (setting_of tables lists rows stamps epoch) core turns).decided ≡ early t core.decided }
-{
-}
+{}
