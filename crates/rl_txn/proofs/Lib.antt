@@ -1,2 +1,5 @@
+pub mod Evals
 pub mod Folds
+pub mod Known
+pub mod RowSets
 pub mod SerialLemmas

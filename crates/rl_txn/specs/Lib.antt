@@ -1,3 +1,5 @@
+pub mod Eval
 pub mod Fits
+pub mod RowSets
 pub mod Run
 pub mod Serial

@@ -1,0 +1,4 @@
+//! Record numbers.
+#![tactic(auto)]
+
+pub mod layout;

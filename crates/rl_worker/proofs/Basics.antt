@@ -1,0 +1,38 @@
+-- Updates of functions, and lists of writes.
+use Rattle.std.proofs.Common.{◌≡◌, ◌≢◌, ◌⊎◌, ℕ, zero, suc, ◌+◌, ◌<◌, ◌≤◌, List, [], ◌∷◌, ◌++◌, length, get_or, take, set, Bool, true, false, not, ◌==◌, if◌then◌else◌, Option, Some, None, refl, sym, ap, ◌∙◌, subst, arith, inl, inr, eqb-true, eq-eqb, ne_eqb, true≢false, append_assoc}
+use Rattle.std.proofs.lemmas.Bool.Decides.{eqb_tells, nat_tests}
+use Rattle.rl_worker.proofs.States.{Answer, Read, Install, upd, has, row_at}
+
+pub upd_same : {A : Type 0} (f : ℕ → A) (i : ℕ) (x : A) → upd f i x i ≡ x
+upd_same f i x = rw (eq-eqb i i refl)
+
+pub upd_other : {A : Type 0} (f : ℕ → A) (i : ℕ) (x : A) (j : ℕ) → j ≢ i → upd f i x j ≡ f j
+upd_other f i x j n = rw (ne_eqb j i n)
+
+-- what holds of the new value at i, and of the old ones elsewhere, holds everywhere
+pub by_upd : {A : Type 0} (P : A → Type 0) (f : ℕ → A) (i : ℕ) (x : A) (j : ℕ) → (j ≡ i → P x) → (j ≢ i → P (f j)) → P (upd f i x j)
+by_upd P f i x j here there =
+    elim (eqb_tells j i) [ inl e ↦ rw e.0 (here e.1) | inr e ↦ rw e.0 (there e.1) ]
+
+pub has_append : (r : ℕ) (xs : List Install) (x : Install) → has r (xs ++ x ∷ []) ≡ true → (has r xs ≡ true) ⊎ (r ≡ x.rec)
+has_append r [] x h = elim (eqb_tells r x.rec) [ inl e ↦ inr e.1 | inr e ↦ inl (rw e.0 at h) ]
+has_append r (y ∷ xs) x h = elim (eqb_tells r y.rec) [ inl e ↦ inl (rw e.0) | inr e ↦ rw e.0 (has_append r xs x (rw e.0 at h)) ]
+
+pub has_append_old : (r : ℕ) (xs : List Install) (x : Install) → has r xs ≡ true → has r (xs ++ x ∷ []) ≡ true
+has_append_old r [] x h = absurd (true≢false (sym h))
+has_append_old r (y ∷ xs) x h = elim (eqb_tells r y.rec) [ inl e ↦ rw e.0 | inr e ↦ rw e.0 (has_append_old r xs x (rw e.0 at h)) ]
+
+pub has_append_new : (r : ℕ) (xs : List Install) (x : Install) → r ≡ x.rec → has r (xs ++ x ∷ []) ≡ true
+has_append_new r [] x e = rw (eq-eqb r x.rec e)
+has_append_new r (y ∷ xs) x e = elim (eqb_tells r y.rec) [ inl t ↦ rw t.0 | inr t ↦ rw t.0 (has_append_new r xs x e) ]
+
+pub has_row : (r : ℕ) (xs : List Install) → has r xs ≡ false → row_at r xs ≡ None
+has_row r [] h = refl
+has_row r (y ∷ xs) h = elim (eqb_tells r y.rec) [ inl t ↦ absurd (true≢false (rw t.0 at h)) | inr t ↦ rw t.0 (has_row r xs (rw t.0 at h)) ]
+
+pub row_has : (r : ℕ) (xs : List Install) (row : List ℕ) → row_at r xs ≡ Some row → has r xs ≡ true
+row_has r [] row h = absurd (cc)
+row_has r (y ∷ xs) row h = elim (eqb_tells r y.rec) [ inl t ↦ rw t.0 | inr t ↦ rw t.0 (row_has r xs row (rw t.0 at h)) ]
+
+pub has_dec : (r : ℕ) (xs : List Install) → (has r xs ≡ true) ⊎ (has r xs ≡ false)
+has_dec r xs = grind arith

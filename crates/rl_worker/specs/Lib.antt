@@ -1,0 +1,5 @@
+pub mod Acts
+pub mod Items
+pub mod Opening
+pub mod Phases
+pub mod Words

@@ -1,0 +1,110 @@
+-- The core of an open leader: real tables, request lists and rows.
+use Rattle.std.specs.Prelude.{◌≡◌, ℕ, zero, suc, ◌+◌, ◌-◌, ◌*◌, ◌^◌, ◌<◌, ◌≤◌, List, [], ◌∷◌, length, map, sum, get_or, slice_index, slice_get, replicate, Option, Some, None, is_some, All}
+use Rattle.std.specs.Option.{option_map_or, option_and_then}
+use Rattle.std.specs.List.{range_with_len}
+use Rattle.std.specs.FinMap as finite
+use Rattle.rl_base.specs.declared.stamp.Stamp.{Stamp}
+use Rattle.rl_value.specs.Rows.{Rows}
+use Rattle.rl_value.specs.Tables.{Table, IsSchema, size_of, columns_of}
+use Rattle.rl_tables.specs.Numbers.{sizes_of, record_of, place_of}
+use Rattle.rl_txn.specs.Fits.{ListsFit}
+use Rattle.rl_txn.specs.Run.{Overlay, run}
+use Rattle.rl_txn.specs.Eval.{rows_of, wants}
+use Rattle.rl_txn.specs.Serial.{numbered}
+use Rattle.rl_txn.specs.declared.op.Op.{Op}
+use Rattle.rl_txn.specs.declared.eval.Wants as eval
+use Rattle.rl_txn.specs.declared.eval.Wants.TheVariants.{Read as WantsRead, Ended as WantsEnded}
+use Rattle.rl_txn.specs.declared.write.Write.{Write}
+use Rattle.rl_txn.specs.declared.item.Item as txn
+use Rattle.rl_worker.specs.Phases.{Read, Install, Rec, Outcome, Wants, Ends, Phase, Rest, Setting}
+use Rattle.rl_worker.specs.Items.{Item}
+use Rattle.rl_worker.specs.Acts.{Core, Turn, no_rec, opening, run as run_core}
+
+-- a record's cells: presence, then the columns, which are zeros where the row is absent
+abbrev pub cells_of : ℕ → Option (List ℕ) → List ℕ
+cells_of columns None = 0 ∷ replicate columns 0
+cells_of columns (Some row) = 1 ∷ row
+
+-- the row that cells stand for
+abbrev pub row_of : List ℕ → Option (List ℕ)
+row_of [] = None
+row_of (zero ∷ row) = None
+row_of (suc n ∷ row) = Some row
+
+-- the rows that were read, by place
+abbrev pub overlay_of : List Table → List Read → Overlay
+overlay_of tables [] = finite.empty
+overlay_of tables (x ∷ xs) = finite.insert (overlay_of tables xs) (place_of (sizes_of tables) x.rec) (row_of x.row)
+
+-- a write as it is installed in its record
+abbrev pub install_of : List Table → Write → Install
+install_of tables w = record { rec = record_of (sizes_of tables) w.table w.key; row = cells_of (columns_of tables w.table) w.row }
+
+abbrev pub outcome_of : List Table → List Op → List Read → eval.Wants → Outcome
+outcome_of tables txn reads (WantsRead t k) = Wants (record_of (sizes_of tables) t k)
+outcome_of tables txn reads (WantsEnded end) =
+    let answer = run tables txn (rows_of (overlay_of tables reads)) in Ends answer (map (install_of tables) answer.1)
+
+-- what a transaction does next, given the records that it has read
+abbrev pub outcome : List Table → List Op → List Read → Outcome
+outcome tables txn reads = outcome_of tables txn reads (wants tables txn (overlay_of tables reads))
+
+-- the request of a worker and an index, both counted from 1
+abbrev pub request : List (List (List Op)) → ℕ → ℕ → Option (List Op)
+request lists w q = option_and_then (λ list. numbered list q) (numbered lists w)
+
+-- a worker begins no request that is not there; such a one would never end
+abbrev pub asks : List Table → List (List (List Op)) → ℕ → ℕ → List Read → Outcome
+asks tables lists w q reads = option_map_or (λ txn. outcome tables txn reads) (request lists w q) (Wants 0)
+
+-- a record as it opens: the stamp of its last write, or 0, and its row
+abbrev pub opening_rec : List Table → Rows → List ℕ → ℕ → Rec
+opening_rec tables rows stamps r =
+    let place = place_of (sizes_of tables) r in
+    record { stamp = slice_index stamps r; holder = None; cells = cells_of (columns_of tables place.0) (finite.get rows place) }
+
+abbrev pub opening_recs : List Table → Rows → List ℕ → List Rec
+opening_recs tables rows stamps = map (opening_rec tables rows stamps) (range_with_len 0 (sum (sizes_of tables)))
+
+-- the first stamp of an epoch that is drawn is that of seq 2, and the last that of 2^40 - 2
+abbrev pub setting_of : List Table → List (List (List Op)) → Rows → List ℕ → ℕ → Setting
+setting_of tables lists rows stamps epoch = record {
+  there = λ w q. is_some (request lists w q);
+  ask = asks tables lists;
+  width = λ r. length (get_or (opening_recs tables rows stamps) r no_rec).cells;
+  start = λ r. get_or (opening_recs tables rows stamps) r no_rec;
+  base = epoch * 2 ^ 40 + 2;
+  last = epoch * 2 ^ 40 + (2 ^ 40 - 1);
+}
+
+-- the index that a worker begins with. Workers are counted from 1: nobody is at place 0
+abbrev pub first_of : List ℕ → ℕ → ℕ
+first_of firsts zero = 0
+first_of firsts (suc w) = slice_index firsts w
+
+abbrev pub at_rest : List ℕ → List Phase
+at_rest firsts = Rest 0 ∷ map Rest firsts
+
+-- the core after some steps and idle draws of the workers
+abbrev pub core_after : List Table → List (List (List Op)) → Rows → List ℕ → ℕ → List ℕ → List Turn → Core
+core_after tables lists rows stamps epoch firsts turns =
+    let setting = setting_of tables lists rows stamps epoch in
+    run_core setting (opening setting (opening_recs tables rows stamps) (at_rest firsts)) turns
+
+-- an item of the core as the layers above keep it
+abbrev pub item_of : ℕ → Item → txn.Item
+item_of epoch x = record { stamp = record { epoch = epoch; seq = x.stamp - epoch * 2 ^ 40 }; worker = x.worker; index = x.index; reply = x.answer.0; writes = x.answer.1 }
+
+abbrev pub items_of : ℕ → List Item → List txn.Item
+items_of epoch xs = map (item_of epoch) xs
+
+-- each row that is present is at a key that is there, and has its table's columns
+abbrev pub RowsFit : List Table → Rows → Type 0
+RowsFit tables rows = (t k : ℕ) (row : List ℕ) → finite.get rows (t, k) ≡ Some row → (t < length tables) × (k < size_of tables t) × (length row ≡ columns_of tables t)
+
+-- what a core may open with: the stamps are of earlier epochs, or 0
+pub record CoreFits (tables : List Table) (lists : List (List (List Op))) (rows : Rows) (stamps : List ℕ) (epoch : ℕ) : Type 0 where
+  pub schema : IsSchema tables
+  pub lists_fit : ListsFit tables lists
+  pub rows_fit : RowsFit tables rows
+  pub earlier : (r : ℕ) → slice_index stamps r < epoch * 2 ^ 40

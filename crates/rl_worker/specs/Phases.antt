@@ -1,0 +1,73 @@
+-- Records, and the phases of an attempt: it reads, locks what it writes, draws a stamp, validates what it read, and installs (after Silo's commit protocol).
+use Rattle.std.specs.Prelude.{◌≡◌, ℕ, zero, suc, List, [], ◌∷◌, Bool, true, false, not, ◌==◌, nat_lt, if◌then◌else◌, Option, Some, None}
+use Rattle.rl_txn.specs.declared.write.Reply.{Reply}
+use Rattle.rl_txn.specs.declared.write.Write.{Write}
+
+-- what a transaction answers and writes
+abbrev pub Answer : Type 0
+Answer = Reply × List Write
+
+-- a read that counts: the record, the stamp that was seen, and its cells, which are presence and columns
+pub record Read : Type 0 where
+  pub rec : ℕ
+  pub seen : ℕ
+  pub row : List ℕ
+
+-- a record that is to be written, and its new cells
+pub record Install : Type 0 where
+  pub rec : ℕ
+  pub row : List ℕ
+
+-- a record: its stamp, the worker that holds it, its cells
+pub record Rec : Type 0 where
+  pub stamp : ℕ
+  pub holder : Option ℕ
+  pub cells : List ℕ
+
+-- what a transaction does next, given the records that it has read
+pub data Outcome : Type 0 where
+  Wants : ℕ → Outcome
+  Ends : Answer → List Install → Outcome
+
+-- what a worker is about. It stands in Asking, and in a phase with nothing left, only within a step
+pub data Phase : Type 0 where
+  Rest : ℕ → Phase
+  Asking : (q : ℕ) → List Read → Phase
+  Wanting : (q : ℕ) → List Read → (r : ℕ) → Phase
+  Loading : (q : ℕ) → List Read → (r seen : ℕ) → (loaded : List ℕ) → Phase
+  Locking : (q : ℕ) → List Read → (answer : Answer) → (locked todo : List Install) → Phase
+  Validating : (q t : ℕ) → (done todo : List Read) → (answer : Answer) → (writes : List Install) → Phase
+  Storing : (q t stored : ℕ) → (todo : List Install) → Phase
+  Refusing : (q : ℕ) → (todo : List Install) → Phase
+
+-- what stays the same: which requests there are and what they do, the records as they open, the first stamp and the one past the last
+pub record Setting : Type 0 where
+  pub there : (worker index : ℕ) → Bool
+  pub ask : (worker index : ℕ) → List Read → Outcome
+  pub width : ℕ → ℕ
+  pub start : ℕ → Rec
+  pub base : ℕ
+  pub last : ℕ
+
+abbrev pub has : ℕ → List Install → Bool
+has r [] = false
+has r (x ∷ xs) = if r == x.rec then true else has r xs
+
+abbrev pub row_at : ℕ → List Install → Option (List ℕ)
+row_at r [] = None
+row_at r (x ∷ xs) = if r == x.rec then Some x.row else row_at r xs
+
+-- one more read, by rising record number
+abbrev pub with_read : Read → List Read → List Read
+with_read x [] = x ∷ []
+with_read x (y ∷ ys) = if nat_lt x.rec y.rec then x ∷ y ∷ ys else y ∷ with_read x ys
+
+-- the phase after what the transaction asked for
+abbrev pub asked : ℕ → List Read → Outcome → Phase
+asked q reads (Wants r) = Wanting q reads r
+asked q reads (Ends answer writes) = Locking q reads answer [] writes
+
+-- a holder that is not this worker
+abbrev pub other : ℕ → Option ℕ → Bool
+other w None = false
+other w (Some v) = not (v == w)

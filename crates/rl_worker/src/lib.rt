@@ -1,0 +1,6 @@
+//! One worker of an open leader, and the law of all of them.
+#![tactic(auto)]
+
+pub mod act;
+pub mod laws;
+pub mod words;
