@@ -59,7 +59,7 @@ indexes_of worker items = map (λ (item : Item). item.index) (filter (λ (item :
 abbrev pub IsInLists : List Item → Type 0
 IsInLists items = (worker : ℕ) → indexes_of worker items ≡ range_with_len 1 (length (indexes_of worker items))
 
--- and they are all of its requests
+-- the items of each worker that has a list are all of its requests, in order
 abbrev pub IsWhole : List (List (List Op)) → List Item → Type 0
 IsWhole lists items = (worker : ℕ) → (list : List (List Op)) → numbered lists worker ≡ Some list → indexes_of worker items ≡ range_with_len 1 (length list)
 
