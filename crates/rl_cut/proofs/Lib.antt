@@ -1,0 +1,4 @@
+pub mod Folds
+pub mod Sorting
+pub mod Stamps
+pub mod Nesting
