@@ -1,0 +1,4 @@
+pub mod Entries
+pub mod Replay
+pub mod Newest
+pub mod Codes

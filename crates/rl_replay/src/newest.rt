@@ -1,0 +1,65 @@
+//! Writes where the newer stamp wins.
+
+ghost use Rattle.std.specs.Prelude.{◌≡◌, ℕ, [], ◌∷◌, take, not, OnOk, OnErr};
+ghost use Rattle.std.specs.FinMap as finite;
+ghost use Rattle.rl_txn.specs.Serial.{with_write, after_writes};
+ghost use Rattle.rl_replay.specs.Newest.{is_old, fresh, stamped};
+
+use rl_base::memory::Memory;
+use rl_base::stamp::Stamp;
+use rl_cut::order::is_below;
+use rl_txn::item::Item;
+use rl_txn::write::Write;
+use rl_value::map::{Map, Places};
+
+/// The stamp of the newest write of each key.
+pub type Newest = Places<Stamp>;
+
+/// Makes each write of an item, unless its key has a newer one. After `Memory` a front of these writes
+/// is made.
+pub fn apply_newest(map: &mut Map, newest: &mut Newest, item: &Item) -> Result<(), Memory>
+    ensures rows { OnOk result (map.new ≡ after_writes map.old (fresh newest.old item.now.stamp item.now.writes)) }
+    ensures stamps { OnOk result ((q : ℕ × ℕ) → finite.get newest.new q ≡ stamped (finite.get newest.old q) item.now.stamp q (fresh newest.old item.now.stamp item.now.writes)) }
+    ensures front { OnErr result ((n : ℕ) × (map.new ≡ after_writes map.old (take n (fresh newest.old item.now.stamp item.now.writes)))) }
+{
+    for write in item.writes.as_slice() {
+        apply_one(map, newest, item.stamp, write)?;
+    }
+    Ok(())
+}
+
+/// Makes a write, unless its key has a newer one. After `Memory` the map is unchanged.
+fn apply_one(map: &mut Map, newest: &mut Newest, stamp: Stamp, write: &Write) -> Result<(), Memory>
+    ensures rows { OnOk result (map.new ≡ after_writes map.old (fresh newest.old stamp (write.now ∷ []))) }
+    ensures stamps { OnOk result ((q : ℕ × ℕ) → finite.get newest.new q ≡ stamped (finite.get newest.old q) stamp q (fresh newest.old stamp (write.now ∷ []))) }
+    ensures unchanged { OnErr result (map.new ≡ map.old) }
+{
+    if is_old(newest, stamp, write) {
+        return Ok(());
+    }
+    newest.put(write.table, write.key, stamp)?;
+    make(map, write)?;
+    Ok(())
+}
+
+/// Whether the key of a write has a newer one.
+fn is_old(newest: &Newest, stamp: Stamp, write: &Write) -> bool
+    ensures { result ≡ is_old (finite.get newest.now (write.now.table, write.now.key)) stamp }
+{
+    match newest.get(write.table, write.key) {
+        Some(newer) => is_below(stamp, *newer),
+        None => false,
+    }
+}
+
+/// Makes one write. After `Memory` the map is unchanged.
+fn make(map: &mut Map, write: &Write) -> Result<(), Memory>
+    ensures made { OnOk result (map.new ≡ with_write map.old write.now) }
+    ensures unchanged { OnErr result (map.new ≡ map.old) }
+{
+    match &write.row {
+        Some(row) => map.put(write.table, write.key, row.copy())?,
+        None => map.del(write.table, write.key),
+    }
+    Ok(())
+}

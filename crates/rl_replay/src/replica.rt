@@ -1,0 +1,396 @@
+//! A replica of the store.
+
+ghost use Rattle.std.specs.Prelude.{◌≡◌, ℕ, ◌+◌, ◌-◌, ◌^◌, ◌<◌, ◌≤◌, [], false, true, length, take, replicate, slice_get, slice_index, slice_set, All, ◌∷◌, ◌++◌, Some, IsSomeAnd, IfOk, OnOk, OnErr, IsErr, IsTrue, ◌↔◌};
+ghost use Rattle.std.specs.Option.{option_map};
+ghost use Rattle.rl_value.specs.Rows.{Rows};
+ghost use Rattle.rl_txn.specs.Serial.{after_writes};
+ghost use Rattle.rl_replay.specs.Replay.{newest_writes, HasStamp, next_entry, item_answer, answer, after_answer, IsReplay, HasFailed, IsSameSet, AreTold};
+ghost use Rattle.rl_replay.specs.Entries.{entries_of, item_entry, mark_entry};
+
+use crate::cursor::find;
+use crate::newest::{Newest, apply_newest};
+use crate::played::Played;
+use rl_base::bound::Bound;
+use rl_base::memory::Memory;
+use rl_base::stamp::Stamp;
+use rl_txn::batch::{Batch, Batches};
+use rl_txn::item::{Item, Items};
+use rl_value::map::Map;
+use rl_value::schema::Schema;
+use std::alloc::Global;
+use std::marker::Model;
+
+/// What a replica has of the streams. Contracts see what it has applied and played, and its rows.
+#[derive(Drop)]
+pub struct Replica {
+    map: Map,
+    newest: Newest,
+    applied: Vec<Item>,
+    played: Vec<u128>,
+    failed: bool,
+}
+
+impl Model for Replica {
+    ghost use Rattle.std.specs.Prelude.{◌≡◌, false};
+    ghost use Rattle.rl_replay.specs.Replay.{Replaying};
+    ghost use Rattle.rl_replay.specs.Newest.{AreNewest};
+    ghost use Rattle.std.specs.Coded.{codes};
+    ghost use Rattle.rl_replay.specs.Codes.{rows_code};
+
+    ghost Value = { Replaying };
+
+    ghost coded = { Prim.hlevel (codes, rows_code) };
+
+    ghost view = { λ r. record { applied = r.applied.items; played = r.played.items; rows = r.map; failed = r.failed } };
+
+    ghost invariant = { λ r. r.failed ≡ false → AreNewest r.applied.items r.newest };
+}
+
+impl Replica {
+    /// A replica of the opening rows, which are of the schema, that has played nothing of streams 1 to
+    /// `streams`.
+    pub fn new(
+        alloc: Global,
+        _schema: &Schema,
+        opening: &Map,
+        streams: u32,
+    ) -> Result<Replica, Memory>
+        ensures { IfOk result (λ replica. replica ≡ record { applied = []; played = replicate streams 0; rows = opening.now; failed = false }) }
+    {
+        let mut played = Vec::with_capacity(alloc, streams as usize)?;
+        for _stream in 0..streams {
+            played.push(0)?;
+        }
+        Ok(Replica {
+            map: opening.copy()?,
+            newest: Newest::new(alloc),
+            applied: Vec::new(alloc),
+            played,
+            failed: false,
+        })
+    }
+
+    /// The rows.
+    pub fn map(&self) -> &Map
+        ensures { result.now ≡ self.now.rows }
+    {
+        &self.map
+    }
+
+    /// The epoch of the next entry of a stream, in the first `known` batches of its log; none where these
+    /// are played out.
+    pub fn next_epoch_of(&self, stream: u32, log: &Batches, known: u32) -> Option<u32>
+        requires first_stream { 1 ≤ stream }
+        requires last_stream { stream ≤ length self.now.played }
+        requires known { known ≤ length log.now }
+        ensures { result ≡ option_map (λ e. e.stamp.epoch) (next_entry self.now stream (take known log.now)) }
+    {
+        let known = &log.as_slice()[..known as usize];
+        match find(known, self.played[stream as usize - 1]) {
+            Some((batch, place)) => Some(epoch_at(batch, place)),
+            None => None,
+        }
+    }
+
+    /// Plays the next entry of a stream, in the first `known` batches of its log, with the bound of the
+    /// entry's epoch and the seq of the watermark.
+    ///
+    /// Want of memory leaves the applied items and the cursors as they were. A front of the item's writes
+    /// may stand in the rows then, and every later call answers `Memory`.
+    pub fn play(
+        &mut self,
+        alloc: Global,
+        stream: u32,
+        log: &Batches,
+        known: u32,
+        bound: Bound,
+        watermark: u64,
+    ) -> Result<Played, Memory>
+        requires first_stream { 1 ≤ stream }
+        requires last_stream { stream ≤ length self.old.played }
+        requires known { known ≤ length log.now }
+        ensures answer { IfOk result (λ p. p ≡ answer (next_entry self.old stream (take known log.now)) bound watermark) }
+        ensures state { IfOk result (λ p. self.new ≡ after_answer self.old stream (next_entry self.old stream (take known log.now)) p) }
+        ensures replay { (opening : Rows) → IsReplay opening self.old → OnOk result (IsReplay opening self.new) }
+        ensures err { OnErr result (HasFailed (next_entry self.old stream (take known log.now)) self.old self.new) }
+        ensures stays_failed { self.old.failed ≡ true → IsErr result }
+    {
+        if self.failed {
+            return Err(Memory);
+        }
+        let known = &log.as_slice()[..known as usize];
+        match find(known, self.played[stream as usize - 1]) {
+            Some((batch, place)) => self.play_at(alloc, stream, batch, place, bound, watermark),
+            None => Ok(Played::Empty),
+        }
+    }
+
+    /// Plays an entry of a batch.
+    fn play_at(
+        &mut self,
+        alloc: Global,
+        stream: u32,
+        batch: &Batch,
+        place: usize,
+        bound: Bound,
+        watermark: u64,
+    ) -> Result<Played, Memory>
+        requires first_stream { 1 ≤ stream }
+        requires last_stream { stream ≤ length self.old.played }
+        requires room { slice_index self.old.played (stream - 1) + 1 < 2 ^ 128 }
+        requires working { self.old.failed ≡ false }
+        requires place { place < length (entries_of batch.now) }
+        ensures answer { IfOk result (λ p. p ≡ answer (slice_get (entries_of batch.now) place) bound watermark) }
+        ensures state { IfOk result (λ p. self.new ≡ after_answer self.old stream (slice_get (entries_of batch.now) place) p) }
+        ensures err { OnErr result (HasFailed (slice_get (entries_of batch.now) place) self.old self.new) }
+    {
+        match batch {
+            Batch::Items(items) => {
+                self.play_item(alloc, stream, items.get(place), bound, watermark)
+            }
+            Batch::Idle(stamp) => Ok(self.pass(stream, *stamp)),
+            Batch::Opened(stamp) => Ok(self.pass(stream, *stamp)),
+        }
+    }
+
+    fn play_item(
+        &mut self,
+        alloc: Global,
+        stream: u32,
+        item: &Item,
+        bound: Bound,
+        watermark: u64,
+    ) -> Result<Played, Memory>
+        requires first_stream { 1 ≤ stream }
+        requires last_stream { stream ≤ length self.old.played }
+        requires room { slice_index self.old.played (stream - 1) + 1 < 2 ^ 128 }
+        requires working { self.old.failed ≡ false }
+        ensures answer { IfOk result (λ p. p ≡ item_answer item.now.stamp bound watermark) }
+        ensures state { IfOk result (λ p. self.new ≡ after_answer self.old stream (Some (item_entry item.now)) p) }
+        ensures err { OnErr result (HasFailed (Some (item_entry item.now)) self.old self.new) }
+    {
+        match answer_item(item.stamp, bound, watermark) {
+            Played::Applied { stamp } => self.apply(alloc, stream, item),
+            Played::Passed { stamp } => Ok(self.pass(stream, stamp)),
+            Played::Above { next, watermark } => Ok(Played::Above { next, watermark }),
+            Played::Empty => Ok(Played::Empty),
+        }
+    }
+
+    /// Applies an item.
+    fn apply(&mut self, alloc: Global, stream: u32, item: &Item) -> Result<Played, Memory>
+        requires first_stream { 1 ≤ stream }
+        requires last_stream { stream ≤ length self.old.played }
+        requires room { slice_index self.old.played (stream - 1) + 1 < 2 ^ 128 }
+        requires working { self.old.failed ≡ false }
+        ensures answer { IfOk result (λ p. p ≡ Played.Applied item.now.stamp) }
+        ensures state { OnOk result (self.new ≡ after_answer self.old stream (Some (item_entry item.now)) (Played.Applied item.now.stamp)) }
+        ensures err { OnErr result (HasFailed (Some (item_entry item.now)) self.old self.new) }
+    {
+        self.keep(alloc, item)?;
+        self.advance(stream);
+        Ok(Played::Applied { stamp: item.stamp })
+    }
+
+    /// Keeps an item and makes its writes.
+    fn keep(&mut self, alloc: Global, item: &Item) -> Result<(), Memory>
+        requires { self.old.failed ≡ false }
+        ensures kept { OnOk result (self.new ≡ record self.old { applied = self.old.applied ++ item.now ∷ []; rows = after_writes self.old.rows (newest_writes self.old.applied item.now) }) }
+        ensures err { OnErr result (HasFailed (Some (item_entry item.now)) self.old self.new) }
+    {
+        self.failed = true;
+        let kept = self.applied.len();
+        self.applied.push(item.copy(alloc)?)?;
+        if let Err(e) = apply_newest(&mut self.map, &mut self.newest, item) {
+            self.applied.truncate(kept);
+            return Err(e);
+        }
+        self.failed = false;
+        Ok(())
+    }
+
+    /// Passes an entry over.
+    fn pass(&mut self, stream: u32, stamp: Stamp) -> Played
+        requires first_stream { 1 ≤ stream }
+        requires last_stream { stream ≤ length self.old.played }
+        requires room { slice_index self.old.played (stream - 1) + 1 < 2 ^ 128 }
+        ensures answer { result ≡ Played.Passed stamp }
+        ensures state { self.new ≡ record self.old { played = slice_set self.old.played (stream - 1) (slice_index self.old.played (stream - 1) + 1) } }
+    {
+        self.advance(stream);
+        Played::Passed { stamp }
+    }
+
+    fn advance(&mut self, stream: u32)
+        requires first_stream { 1 ≤ stream }
+        requires last_stream { stream ≤ length self.old.played }
+        requires room { slice_index self.old.played (stream - 1) + 1 < 2 ^ 128 }
+        ensures { self.new ≡ record self.old { played = slice_set self.old.played (stream - 1) (slice_index self.old.played (stream - 1) + 1) } }
+    {
+        self.played[stream as usize - 1] += 1;
+    }
+
+    /// Whether every item of a history was applied, and no other.
+    pub fn at_watermark(&self, history: &Items) -> bool
+        ensures { AreTold self.now.applied history.now → (IsTrue result ↔ IsSameSet history.now self.now.applied) }
+    {
+        same_stamps(&self.applied, history.as_slice())
+    }
+}
+
+/// What becomes of an item.
+fn answer_item(stamp: Stamp, bound: Bound, watermark: u64) -> Played
+    ensures { result ≡ item_answer stamp bound watermark }
+{
+    match bound {
+        Bound::Final { seq } if stamp.seq <= seq => Played::Applied { stamp },
+        Bound::Final { seq: _ } => Played::Passed { stamp },
+        Bound::Rising { seq: _ } if stamp.seq <= watermark => Played::Applied { stamp },
+        _ => Played::Above {
+            next: stamp,
+            watermark,
+        },
+    }
+}
+
+/// Whether the applied items are those of a history, told by their stamps.
+fn same_stamps(applied: &[Item], history: &[Item]) -> bool
+    ensures { AreTold applied.now history.now → (IsTrue result ↔ IsSameSet history.now applied.now) }
+{
+    let every = has_stamps(applied, history);
+    let no_other = has_stamps(history, applied);
+    every && no_other
+}
+
+/// Whether each of some other items has the stamp of an item.
+fn has_stamps(items: &[Item], others: &[Item]) -> bool
+    ensures { IsTrue result ↔ All (λ x. HasStamp items.now x.stamp) others.now }
+{
+    for item in others {
+        if !has_stamp(items, item.stamp) {
+            return false;
+        }
+    }
+    true
+}
+
+/// Whether some item has a stamp.
+fn has_stamp(items: &[Item], stamp: Stamp) -> bool
+    ensures { IsTrue result ↔ HasStamp items.now stamp }
+{
+    items.iter().any(|item| item.stamp.epoch == stamp.epoch && item.stamp.seq == stamp.seq)
+}
+
+/// The epoch of an entry of a batch.
+fn epoch_at(batch: &Batch, place: usize) -> u32
+    requires { place < length (entries_of batch.now) }
+    ensures { IsSomeAnd (slice_get (entries_of batch.now) place) (λ e. result ≡ e.stamp.epoch) }
+{
+    match batch {
+        Batch::Items(items) => items.get(place).stamp.epoch,
+        Batch::Idle(stamp) => stamp.epoch,
+        Batch::Opened(stamp) => stamp.epoch,
+    }
+}
+
+#[cfg(test)]
+mod tests {
+    use super::*;
+    use rl_base::list::Seq;
+    use rl_txn::write::{End, Reply, Write};
+    use rl_value::row::Row;
+    use std::test::Fail;
+
+    fn item(alloc: Global, seq: u64, value: u64) -> Result<Item, Memory> {
+        let mut writes = Seq::new(alloc);
+        writes.push(Write {
+            table: 0,
+            key: 0,
+            row: Some(Row::from_slice(&[value])),
+        })?;
+        Ok(Item {
+            stamp: Stamp { epoch: 1, seq },
+            worker: 1,
+            index: 1,
+            reply: Reply {
+                outs: Seq::new(alloc),
+                end: End::Done,
+            },
+            writes,
+        })
+    }
+
+    fn log_of(alloc: Global, items: Items) -> Result<Batches, Memory>
+        ensures { IfOk result (λ log. length log ≡ 1) }
+    {
+        let mut log = Batches::new(alloc);
+        log.push(Batch::Items(items))?;
+        Ok(log)
+    }
+
+    fn play(
+        replica: &mut Replica,
+        alloc: Global,
+        stream: u32,
+        log: &Batches,
+    ) -> Result<Played, Memory>
+        requires first_stream { 1 ≤ stream }
+        requires last_stream { stream ≤ length replica.old.played }
+        requires one { length log.now ≡ 1 }
+        ensures { IfOk result (λ _. length replica.new.played ≡ length replica.old.played) }
+    {
+        replica.play(alloc, stream, log, 1, Bound::Rising { seq: 3 }, 3)
+    }
+
+    fn value(replica: &Replica) -> u64 {
+        match replica.map().get(0, 0) {
+            Some(row) => row.column_or_zero(0),
+            None => 0,
+        }
+    }
+
+    #[test]
+    fn newer_stream_first(rt: HostRuntime) -> Result<(), Fail> {
+        let alloc = rt.alloc();
+        let schema = Schema::new(alloc);
+        let mut replica = Replica::new(alloc, &schema, &Map::new(alloc), 2)?;
+        let mut first = Items::new(alloc);
+        first.push(item(alloc, 2, 5)?)?;
+        first.push(item(alloc, 4, 7)?)?;
+        let first = log_of(alloc, first)?;
+        let mut second = Items::new(alloc);
+        second.push(item(alloc, 3, 6)?)?;
+        let second = log_of(alloc, second)?;
+        let mut history = Items::new(alloc);
+        history.push(item(alloc, 2, 5)?)?;
+        assert!(rt; !replica.at_watermark(&history));
+        assert_eq!(rt; replica.next_epoch_of(2, &second, 1), Some(1));
+        let stamp = Stamp { epoch: 1, seq: 3 };
+        assert_eq!(rt;
+            play(&mut replica, alloc, 2, &second)?,
+            Played::Applied { stamp }
+        );
+        assert_eq!(rt; replica.next_epoch_of(2, &second, 1), None);
+        assert!(rt;
+            !replica.at_watermark(&history),
+            "one of each, though not the same"
+        );
+        history.push(item(alloc, 3, 6)?)?;
+        assert!(rt; !replica.at_watermark(&history));
+        let stamp = Stamp { epoch: 1, seq: 2 };
+        assert_eq!(rt;
+            play(&mut replica, alloc, 1, &first)?,
+            Played::Applied { stamp }
+        );
+        assert_eq!(rt; value(&replica), 6);
+        assert!(rt; replica.at_watermark(&history));
+        let next = Stamp { epoch: 1, seq: 4 };
+        assert_eq!(rt;
+            play(&mut replica, alloc, 1, &first)?,
+            Played::Above { next, watermark: 3 }
+        );
+        assert_eq!(rt; play(&mut replica, alloc, 2, &second)?, Played::Empty);
+        assert_eq!(rt; value(&replica), 6);
+        Ok(())
+    }
+}
