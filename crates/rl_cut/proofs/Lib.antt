@@ -2,3 +2,5 @@ pub mod Folds
 pub mod Sorting
 pub mod Stamps
 pub mod Nesting
+pub mod Members
+pub mod Told

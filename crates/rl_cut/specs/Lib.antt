@@ -1,3 +1,4 @@
 pub mod Order
 pub mod Families
 pub mod Laws
+pub mod Leaders

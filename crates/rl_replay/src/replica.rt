@@ -328,6 +328,32 @@ mod tests {
         Ok(log)
     }
 
+    fn only(alloc: Global, seq: u64, value: u64) -> Result<Items, Memory> {
+        let mut items = Items::new(alloc);
+        items.push(item(alloc, seq, value)?)?;
+        Ok(items)
+    }
+
+    fn first_log(alloc: Global) -> Result<Batches, Memory>
+        ensures { IfOk result (λ log. length log ≡ 1) }
+    {
+        let mut items = only(alloc, 2, 5)?;
+        items.push(item(alloc, 4, 7)?)?;
+        log_of(alloc, items)
+    }
+
+    fn second_log(alloc: Global) -> Result<Batches, Memory>
+        ensures { IfOk result (λ log. length log ≡ 1) }
+    {
+        log_of(alloc, only(alloc, 3, 6)?)
+    }
+
+    fn two_streams(alloc: Global) -> Result<Replica, Memory>
+        ensures { IfOk result (λ replica. length replica.played ≡ 2) }
+    {
+        Replica::new(alloc, &Schema::new(alloc), &Map::new(alloc), 2)
+    }
+
     fn play(
         replica: &mut Replica,
         alloc: Global,
@@ -352,45 +378,41 @@ mod tests {
     #[test]
     fn newer_stream_first(rt: HostRuntime) -> Result<(), Fail> {
         let alloc = rt.alloc();
-        let schema = Schema::new(alloc);
-        let mut replica = Replica::new(alloc, &schema, &Map::new(alloc), 2)?;
-        let mut first = Items::new(alloc);
-        first.push(item(alloc, 2, 5)?)?;
-        first.push(item(alloc, 4, 7)?)?;
-        let first = log_of(alloc, first)?;
-        let mut second = Items::new(alloc);
-        second.push(item(alloc, 3, 6)?)?;
-        let second = log_of(alloc, second)?;
-        let mut history = Items::new(alloc);
-        history.push(item(alloc, 2, 5)?)?;
-        assert!(rt; !replica.at_watermark(&history));
-        assert_eq!(rt; replica.next_epoch_of(2, &second, 1), Some(1));
-        let stamp = Stamp { epoch: 1, seq: 3 };
+        let mut replica = two_streams(alloc)?;
+        let first = first_log(alloc)?;
+        let second = second_log(alloc)?;
+        let played = play(&mut replica, alloc, 2, &second)?;
         assert_eq!(rt;
-            play(&mut replica, alloc, 2, &second)?,
-            Played::Applied { stamp }
+            played,
+            Played::Applied {
+                stamp: Stamp { epoch: 1, seq: 3 }
+            }
         );
-        assert_eq!(rt; replica.next_epoch_of(2, &second, 1), None);
-        assert!(rt;
-            !replica.at_watermark(&history),
-            "one of each, though not the same"
-        );
-        history.push(item(alloc, 3, 6)?)?;
-        assert!(rt; !replica.at_watermark(&history));
-        let stamp = Stamp { epoch: 1, seq: 2 };
+        let played = play(&mut replica, alloc, 1, &first)?;
         assert_eq!(rt;
-            play(&mut replica, alloc, 1, &first)?,
-            Played::Applied { stamp }
+            played,
+            Played::Applied {
+                stamp: Stamp { epoch: 1, seq: 2 }
+            }
         );
         assert_eq!(rt; value(&replica), 6);
-        assert!(rt; replica.at_watermark(&history));
+        let played = play(&mut replica, alloc, 1, &first)?;
         let next = Stamp { epoch: 1, seq: 4 };
-        assert_eq!(rt;
-            play(&mut replica, alloc, 1, &first)?,
-            Played::Above { next, watermark: 3 }
-        );
+        assert_eq!(rt; played, Played::Above { next, watermark: 3 });
         assert_eq!(rt; play(&mut replica, alloc, 2, &second)?, Played::Empty);
-        assert_eq!(rt; value(&replica), 6);
+        Ok(())
+    }
+
+    #[test]
+    fn told_by_stamps(rt: HostRuntime) -> Result<(), Fail> {
+        let alloc = rt.alloc();
+        let mut replica = two_streams(alloc)?;
+        let second = second_log(alloc)?;
+        assert_eq!(rt; replica.next_epoch_of(2, &second, 1), Some(1));
+        play(&mut replica, alloc, 2, &second)?;
+        assert_eq!(rt; replica.next_epoch_of(2, &second, 1), None);
+        assert!(rt; replica.at_watermark(&only(alloc, 3, 6)?));
+        assert!(rt; !replica.at_watermark(&only(alloc, 2, 5)?));
         Ok(())
     }
 }
