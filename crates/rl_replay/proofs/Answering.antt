@@ -1,16 +1,15 @@
 -- What the answers of a replica leave.
-use Rattle.std.proofs.Common.{◌≡◌, ℕ, ◌+◌, ◌-◌, ◌<◌, ◌≤◌, List, [], ◌∷◌, ◌++◌, length, get_or, Bool, true, false, Option, Some, None, Result, Ok, Err, refl, sym, ap, ◌∙◌, subst, arith, All, Contains, IsTrue, ◌↔◌, true≢false}
-use Rattle.std.specs.Prelude.{option_to_list, slice_get, slice_index, slice_set, OnOk, IfOk}
+use Rattle.std.proofs.Common.{◌≡◌, ℕ, ◌+◌, ◌-◌, List, [], ◌++◌, get_or, Bool, Option, None, Result, Ok, Err, refl, sym, ap, ◌∙◌, subst, arith, All, Contains, IsTrue, ◌↔◌}
+use Rattle.std.specs.Prelude.{slice_index, slice_set, OnOk, IfOk}
 use Rattle.std.proofs.lemmas.List.{append-nil, set-get_or}
 use Rattle.std.proofs.lemmas.List.Elements.{All-contains, Contains-get_or}
 use Rattle.rl_base.specs.declared.memory.Memory.{Memory}
-use Rattle.rl_base.specs.declared.stamp.Stamp.{Stamp}
 use Rattle.rl_value.specs.Rows.{Rows}
 use Rattle.rl_txn.specs.declared.item.Item.{Item}
 use Rattle.rl_replay.specs.declared.played.Played.{Played}
 use Rattle.rl_replay.specs.declared.played.Played.TheVariants.{Applied, Passed, Above, Empty}
 use Rattle.rl_replay.specs.Entries.{Entry}
-use Rattle.rl_replay.specs.Replay.{Replaying, item_in, added, after_answer, IsReplay, HasStamp, IsSameSet, AreTold}
+use Rattle.rl_replay.specs.Replay.{Replaying, item_in, after_answer, IsReplay, HasStamp, IsSameSet, AreTold}
 use Rattle.rl_replay.proofs.Replays.{replays, same_stamp}
 
 -- an answer that adds nothing and goes no step leaves all as it was

@@ -1,10 +1,10 @@
 -- The newest stamps tell which writes are overwritten, one item further.
-use Rattle.std.proofs.Common.{◌≡◌, ◌⊎◌, ℕ, List, [], ◌∷◌, ◌++◌, Bool, true, false, cond, not, ◌||◌, ◌&&◌, ◌==◌, nat_lt, Option, Some, None, Contains, refl, sym, ap, ◌∙◌, subst, arith, inl, inr, true≢false}
-use Rattle.std.specs.List.{filter, list_any}
+use Rattle.std.proofs.Common.{◌≡◌, ℕ, List, [], ◌∷◌, ◌++◌, true, false, cond, not, ◌&&◌, Option, Some, None, refl, sym, ap, ◌∙◌, subst, arith, inl, inr, true≢false}
+use Rattle.std.specs.List.{list_any}
 use Rattle.std.specs.FinMap.{get}
 use Rattle.std.proofs.lemmas.List.Elements.{filter_agree}
 use Rattle.std.proofs.lemmas.Bool.Decides.{nat_tests}
-use Rattle.std.proofs.lemmas.Bool.{cases_Bool, and_from, and_parts, and_left, and_right, and_cases, or_parts}
+use Rattle.std.proofs.lemmas.Bool.{cases_Bool, and_from, and_left, and_right, and_cases}
 use Rattle.rl_base.specs.declared.stamp.Stamp.{Stamp}
 use Rattle.rl_txn.specs.declared.item.Item.{Item}
 use Rattle.rl_txn.specs.declared.write.Write.{Write}

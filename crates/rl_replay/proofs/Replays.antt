@@ -1,11 +1,11 @@
 -- A replica's rows are what its items leave in the order of their stamps, in whatever order it applied them.
-use Rattle.std.proofs.Common.{◌≡◌, ◌≢◌, ◌⊎◌, ℕ, zero, suc, ◌+◌, ◌<◌, ◌≤◌, List, [], ◌∷◌, ◌++◌, length, get_or, Bool, true, false, cond, not, ◌||◌, ◌&&◌, ◌==◌, nat_lt, Option, Some, None, AllPairs, refl, sym, ap, ◌∙◌, subst, arith, inl, inr, true≢false}
-use Rattle.std.specs.List.{filter, list_any}
+use Rattle.std.proofs.Common.{◌≡◌, ◌≢◌, ◌⊎◌, ℕ, List, [], ◌∷◌, ◌++◌, length, get_or, Bool, true, false, cond, not, ◌||◌, ◌&&◌, ◌==◌, nat_lt, Option, Some, None, refl, sym, ap, ◌∙◌, subst, arith, inl, inr}
+use Rattle.std.specs.List.{list_any}
 use Rattle.std.specs.Prelude.{option_to_list}
 use Rattle.std.specs.FinMap.{get}
 use Rattle.std.proofs.lemmas.List.{append-nil, get_or_append_left, get_or_at, length-append}
 use Rattle.std.proofs.lemmas.Bool.Decides.{nat_tests}
-use Rattle.std.proofs.lemmas.Bool.{cases_Bool, and_from, and_left, or_parts}
+use Rattle.std.proofs.lemmas.Bool.{cases_Bool}
 use Rattle.rl_base.specs.declared.stamp.Stamp.{Stamp}
 use Rattle.rl_value.specs.Rows.{Rows}
 use Rattle.rl_txn.specs.declared.item.Item.{Item}
@@ -13,10 +13,9 @@ use Rattle.rl_txn.specs.declared.write.Write.{Write}
 use Rattle.rl_txn.specs.Serial.{after_writes, after}
 use Rattle.rl_cut.specs.Order.{is_below, place, in_order}
 use Rattle.rl_cut.proofs.Sorting.{In, lower, Least, Sorted, in_order_sorted, lower_one_way}
-use Rattle.rl_cut.proofs.Stamps.{in_front, in_back}
 use Rattle.rl_replay.specs.Replay.{is_at, writes_at, is_overwritten, newest_writes, made, AreDistinct}
 use Rattle.rl_replay.proofs.Places.{same_rows, written, get-after_writes, left_by, get-after, left_over, left_not, written-filter_all, written-filter_none, at_same}
-use Rattle.rl_replay.proofs.Sets.{any_true, any_false, in_contains, contains_in, true_any}
+use Rattle.rl_replay.proofs.Sets.{in_contains}
 
 -- no item of a list has this stamp
 abbrev pub Free : Stamp → List Item → Type 0

@@ -1,7 +1,7 @@
 -- Members and tests of some member.
-use Rattle.std.proofs.Common.{◌≡◌, ◌⊎◌, ℕ, zero, suc, ◌<◌, List, [], ◌∷◌, ◌++◌, length, get_or, Bool, true, false, ◌||◌, refl, sym, ap, ◌∙◌, subst, arith, inl, inr, Contains, true≢false}
+use Rattle.std.proofs.Common.{◌≡◌, ℕ, zero, suc, ◌<◌, List, [], ◌∷◌, length, get_or, Bool, true, false, refl, sym, ap, ◌∙◌, arith, inl, inr, Contains, true≢false}
 use Rattle.std.specs.List.{list_any}
-use Rattle.std.proofs.lemmas.Bool.{cases_Bool, or_parts, or_cases, or_left, or_right, or_from}
+use Rattle.std.proofs.lemmas.Bool.{or_parts, or_cases, or_left, or_right, or_from}
 use Rattle.rl_cut.proofs.Sorting.{In}
 
 pub contains_in : {X : Type 0} (xs : List X) (x : X) → Contains xs x → In x xs

@@ -1,21 +1,21 @@
 -- The newest stamp of each key, one write further.
-use Rattle.std.proofs.Common.{◌≡◌, ◌⊎◌, ℕ, ◌+◌, ◌<◌, List, [], ◌∷◌, ◌++◌, length, get_or, take, drop, Bool, true, false, cond, not, ◌||◌, ◌&&◌, ◌==◌, nat_lt, Option, Some, None, refl, sym, ap, ◌∙◌, subst, arith, inl, inr, true≢false}
-use Rattle.std.specs.List.{filter, list_any}
+use Rattle.std.proofs.Common.{◌≡◌, ℕ, ◌+◌, ◌<◌, List, [], ◌∷◌, ◌++◌, length, get_or, take, drop, Bool, true, false, cond, not, ◌||◌, Option, Some, refl, sym, ap, ◌∙◌, arith, inl, inr, true≢false}
+use Rattle.std.specs.List.{list_any}
 use Rattle.std.specs.FinMap.{get, insert, get-insert}
 use Rattle.std.proofs.lemmas.List.{take_more, take-append-drop, take_at}
 use Rattle.std.proofs.lemmas.List.Elements.{filter-append, filter_agree}
 use Rattle.std.proofs.lemmas.Bool.Decides.{nat_tests}
-use Rattle.std.proofs.lemmas.Bool.{cases_Bool, not_from_true, not_from_false}
+use Rattle.std.proofs.lemmas.Bool.{cases_Bool}
 use Rattle.rl_base.specs.declared.stamp.Stamp.{Stamp}
 use Rattle.rl_value.specs.Rows.{Rows}
 use Rattle.rl_value.proofs.PlacesLemmas.{places_total}
 use Rattle.rl_txn.specs.declared.write.Write.{Write}
-use Rattle.rl_txn.specs.Serial.{with_write, after_writes}
+use Rattle.rl_txn.specs.Serial.{after_writes}
 use Rattle.rl_txn.proofs.Folds.{after_writes-append}
 use Rattle.rl_cut.specs.Order.{is_below}
 use Rattle.rl_replay.specs.Replay.{is_at}
 use Rattle.rl_replay.specs.Newest.{Newest, is_old, fresh, stamped}
-use Rattle.rl_replay.proofs.Places.{place_of, at_same, at_is}
+use Rattle.rl_replay.proofs.Places.{at_same, at_is}
 
 pub not_below_self : (s : Stamp) → is_below s s ≡ false
 not_below_self s = grind (arith, nat_tests)

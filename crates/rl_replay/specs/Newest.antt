@@ -1,5 +1,5 @@
 -- The stamp of the newest write of each key, by which a replica tells whether a write is out of date.
-use Rattle.std.specs.Prelude.{◌≡◌, ◌⊎◌, ℕ, List, Bool, true, false, not, filter, if◌then◌else◌, Contains, Option, Some, None, MatchOption}
+use Rattle.std.specs.Prelude.{◌≡◌, ℕ, List, Bool, true, false, not, filter, if◌then◌else◌, Contains, Option, Some, None, MatchOption}
 use Rattle.std.specs.List.{list_any}
 use Rattle.std.specs.FinMap as finite
 use Rattle.rl_base.specs.declared.stamp.Stamp.{Stamp}

@@ -1,5 +1,5 @@
 -- A replica: it goes over the known prefixes of the streams in any order, applies what counts, and lets the newer stamp win on each key (Rolis).
-use Rattle.std.specs.Prelude.{◌≡◌, ◌≢◌, ◌⊎◌, ℕ, ◌+◌, ◌-◌, List, [], ◌∷◌, ◌++◌, Bool, true, false, not, ◌&&◌, ◌==◌, nat_le, if◌then◌else◌, filter, take, slice_index, slice_set, AllPairs, Any, Contains, Option, Some, None, option_to_list, option_and_then}
+use Rattle.std.specs.Prelude.{◌≡◌, ◌≢◌, ℕ, ◌+◌, ◌-◌, List, [], ◌∷◌, ◌++◌, Bool, true, not, ◌&&◌, ◌==◌, nat_le, if◌then◌else◌, filter, take, slice_index, slice_set, AllPairs, Any, Contains, Option, option_to_list, option_and_then}
 use Rattle.std.specs.List.{list_any}
 use Rattle.std.specs.Option.{option_map_or}
 use Rattle.rl_base.specs.declared.stamp.Stamp.{Stamp}

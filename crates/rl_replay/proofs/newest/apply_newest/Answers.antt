@@ -1,4 +1,4 @@
-use Rattle.std.proofs.Common.{◌≡◌, ℕ, List, [], ◌∷◌, length, take, sym, ap, ◌∙◌, subst, Ok, Err}
+use Rattle.std.proofs.Common.{◌≡◌, ℕ, List, [], ◌∷◌, length, take, ap, ◌∙◌, Ok, Err}
 use Rattle.std.specs.Result.{OnErr}
 use Rattle.rl_txn.specs.declared.write.Write.{Write}
 use Rattle.rl_txn.specs.Serial.{after_writes}

@@ -1,4 +1,4 @@
-use Rattle.std.proofs.Common.{sym, refl, subst, ◌∙◌, arith, All, true≢false}
+use Rattle.std.proofs.Common.{sym, refl, subst, ◌∙◌, All, true≢false}
 use Rattle.std.proofs.lemmas.List.{take_all}
 use Rattle.std.proofs.lemmas.List.Elements.{All-more}
 use Rattle.rl_txn.specs.declared.item.Item.{Item}
