@@ -47,7 +47,11 @@ impl Acceptor {
         ensures refused { IfErr result (λ refusal. refuses self.old epoch ≡ Some refusal) }
         ensures err { OnErr result (self.new ≡ self.old) }
     {
-        self.permit(epoch)?;
+        if self.promised > epoch {
+            return Err(Refused::Promised {
+                promised: self.promised,
+            });
+        }
         self.promised = epoch;
         Ok(())
     }
@@ -73,7 +77,7 @@ impl Acceptor {
 
     /// Appends a batch for the next slot; one for an earlier slot changes nothing. The answer is the stream's length.
     /// Refused in this order: `Promised` exactly where it has promised a later epoch, `OtherBallot` exactly where the
-    /// stream's ballot is another, `OutOfOrder` exactly where the slot lies behind the end; unchanged after each, and
+    /// stream's ballot is another, `OutOfOrder` exactly where the slot lies past the end; unchanged after each, and
     /// after `Memory`.
     pub fn accept(
         &mut self,
@@ -90,7 +94,10 @@ impl Acceptor {
         ensures refused { IfErr result (λ refusal. (refuses_accept self.old epoch stream slot ≡ Some refusal) ⊎ ((refusal ≡ Refused.Memory) × (refuses_accept self.old epoch stream slot ≡ None))) }
         ensures err { OnErr result (self.new ≡ self.old) }
     {
-        self.permit(epoch)?;
+        let promised = self.promised;
+        if epoch < promised {
+            return Err(Refused::Promised { promised });
+        }
         let kept = &mut self.streams[stream as usize - 1];
         if kept.ballot() != epoch {
             return Err(Refused::OtherBallot {
@@ -125,19 +132,6 @@ impl Acceptor {
         ensures short { length result.now ≤ 4096 }
     {
         self.streams[s as usize - 1].log()
-    }
-
-    /// Refuses an epoch below the promised one.
-    fn permit(&self, epoch: u32) -> Result<(), Refused>
-        ensures allowed { OnOk result (refuses self.now epoch ≡ None) }
-        ensures refused { IfErr result (λ refusal. refuses self.now epoch ≡ Some refusal) }
-    {
-        if epoch < self.promised {
-            return Err(Refused::Promised {
-                promised: self.promised,
-            });
-        }
-        Ok(())
     }
 }
 

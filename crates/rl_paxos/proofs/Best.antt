@@ -3,8 +3,8 @@ use Rattle.std.proofs.Common.{◌≡◌, ◌⊎◌, ℕ, ◌<◌, ◌≤◌, Lis
 use Rattle.std.proofs.lemmas.Bool.{cond_both}
 use Rattle.std.proofs.lemmas.Bool.Decides.{nat_tests}
 use Rattle.std.specs.List.{best_of}
-use Rattle.rl_paxos.specs.Recovery.{Promise, recovered, is_better, promised_ballot, promised_log}
-use Rattle.rl_paxos.proofs.Members.{In}
+use Rattle.rl_paxos.specs.Recovery.{Promise, recovered, is_better, promised_ballot, promised_log, IsRecovered}
+use Rattle.rl_paxos.proofs.Members.{In, in_contains, contains_in}
 
 -- by ballot, length and node, q is not better than p
 abbrev pub NoBetterThan : (ballot len node ballot2 len2 node2 : ℕ) → Type 0
@@ -73,3 +73,16 @@ recovered_again s p (q ∷ qs) e h =
     let f : Promise → Promise → Promise = λ b x. cond (is_better s x b) x b in
     let same : f p q ≡ q = cond_both (is_better s q p) q p (λ z. z ≡ q) (λ t. refl) (λ t. first) in
     ap (λ b. promised_log s (best_of (is_better s) b qs)) same
+
+-- what is recovered is recovered by the rule in full
+pub best_is_recovered : (p : Promise) (ps : List Promise) (s : ℕ) → IsRecovered (p ∷ ps) s (recovered (p ∷ ps) s)
+best_is_recovered p ps s =
+    let b : Promise = best_of (is_better s) p ps in
+    record {
+      from = b;
+      promised = in_contains (p ∷ ps) b (best_in s p ps);
+      log_is = refl;
+      highest = λ q i. let t : NoBetter s q b = best_top s p ps q (contains_in (p ∷ ps) q i) in elim t [ inl h ↦ omega arith | inr h ↦ omega (arith, h.0) ];
+      longest = λ q i e. let t : NoBetter s q b = best_top s p ps q (contains_in (p ∷ ps) q i) in elim t [ inl h ↦ absurd (omega arith) | inr h ↦ elim h.1 [ inl l ↦ omega arith | inr l ↦ omega (arith, l.0) ] ];
+      least = λ q i e m. let t : NoBetter s q b = best_top s p ps q (contains_in (p ∷ ps) q i) in elim t [ inl h ↦ absurd (omega arith) | inr h ↦ elim h.1 [ inl l ↦ absurd (omega arith) | inr l ↦ l.1 ] ];
+    }

@@ -40,7 +40,7 @@ HasStream x s = (1 ≤ s) × (s ≤ length x.streams)
 abbrev pub refuses : Acceptor → (epoch : ℕ) → Option Refused
 refuses x epoch = if nat_lt epoch x.promised then Some (Promised x.promised) else None
 
--- an Accept is refused below the promise, then at another ballot, then behind the end of the log
+-- an Accept is refused below the promise, then at another ballot, then past the end of the log
 abbrev pub refuses_accept : Acceptor → (epoch s slot : ℕ) → Option Refused
 refuses_accept x epoch s slot =
     if nat_lt epoch x.promised then Some (Promised x.promised)

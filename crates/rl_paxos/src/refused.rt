@@ -12,7 +12,7 @@ pub enum Refused {
     /// The stream's log was adopted at another ballot.
     #[error("ballot {ballot}")]
     OtherBallot { ballot: u32 },
-    /// The slot lies behind the end of the stream's log.
+    /// The slot lies past the end of the stream's log.
     #[error("order {len}")]
     OutOfOrder { len: u32 },
     /// There was no memory left.

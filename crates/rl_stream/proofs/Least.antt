@@ -1,8 +1,11 @@
 -- A length that a quorum reached is no longer than one that a node acked and that the quorum reached too.
-use Rattle.std.proofs.Common.{◌≡◌, ◌⊎◌, ℕ, zero, suc, ◌+◌, ◌<◌, ◌≤◌, List, [], ◌∷◌, length, get_or, cond, nat_le, refl, sym, ◌∙◌, arith, inl, inr, le-leb}
+use Rattle.std.proofs.Common.{◌≡◌, ◌⊎◌, ℕ, zero, suc, ◌+◌, ◌<◌, ◌≤◌, List, [], ◌∷◌, length, get_or, All, cond, nat_le, refl, sym, ◌∙◌, arith, inl, inr, le-leb}
 use Rattle.std.proofs.lemmas.Bool.{cases_lt, lt-leb}
+use Rattle.std.proofs.lemmas.List.Elements.{All-get_or}
 use Rattle.std.proofs.lemmas.List.Sums.{sum_by-cons}
 use Rattle.rl_paxos.specs.Leaders.{reached}
+use Rattle.rl_paxos.specs.Logs.{Log}
+use Rattle.rl_stream.specs.Fits.{Fits}
 
 -- whether a length was acked, as a number
 abbrev one_if : ℕ → ℕ → ℕ
@@ -93,3 +96,14 @@ none_above xs quorum led some each more q = elim (order more led) [
       let short : reached xs v < quorum = each r.place r.inside (omega (arith, r.above)) in
       absurd (omega arith))
 ]
+
+-- no node reaches a length above all that were acked
+pub reached_within : (xs : List ℕ) (m top : ℕ) → All (λ a. a ≤ top) xs → 0 < reached xs m → m ≤ top
+reached_within xs m top each h =
+    let r = least xs m h in
+    let t : get_or xs r.place 0 ≤ top = All-get_or (λ a. a ≤ top) xs r.place 0 r.inside each in
+    omega (arith, t, r.above)
+
+-- what a quorum has led is within the log
+pub led_within : (quorum led : ℕ) (log : Log) (acked : List ℕ) → Fits quorum led log acked → led ≤ length log
+led_within quorum led log acked f = reached_within acked led (length log) f.reach (omega (arith, f.some, f.is_led.quorum_has))

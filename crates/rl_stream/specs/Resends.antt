@@ -4,7 +4,7 @@ use Rattle.rl_paxos.specs.Leaders.{Leading, acked_by}
 use Rattle.rl_stream.specs.declared.leader_stream.Resend.{Resend}
 use Rattle.rl_stream.specs.declared.leader_stream.Resend.TheVariants.{Sync, From, Nothing}
 
--- the first log until it was acked, then what lies behind the acked length
+-- the first log until it was acked, then what lies past the acked length
 abbrev pub resend_of : Leading → (node : ℕ) → Resend
 resend_of x node =
     if nat_lt (acked_by x node) x.first then Sync

@@ -96,26 +96,29 @@ impl LeaderStream {
         requires { len ≤ length self.old.log }
         ensures counted { self.new ≡ acks self.old node len }
         ensures led { IsLed self.new.quorum self.new.acked result }
+        ensures within { result ≤ length self.new.log }
     {
         if node < 1 || node as usize > self.acked.len() {
-            return self.led;
+            return self.chosen_len();
         }
         let acked = &mut self.acked[node as usize - 1];
         *acked = len.max(*acked);
         self.led = led_len(self.acked.as_slice(), self.quorum);
-        self.led
+        self.chosen_len()
     }
 
     /// The greatest length that a quorum has acked.
     pub fn chosen_len(&self) -> u32
-        ensures { IsLed self.now.quorum self.now.acked result }
+        ensures led { IsLed self.now.quorum self.now.acked result }
+        ensures within { result ≤ length self.now.log }
     {
         self.led
     }
 
     /// The greatest length that a node has acked; 0 of a number that is no node's.
     pub fn acked(&self, node: u32) -> u32
-        ensures { result ≡ acked_by self.now node }
+        ensures acked { result ≡ acked_by self.now node }
+        ensures within { result ≤ length self.now.log }
     {
         if node < 1 || node as usize > self.acked.len() {
             0
@@ -142,7 +145,9 @@ impl LeaderStream {
     /// What to send again to a node: the first log where it has acked less than that, nothing where it has acked all,
     /// and else the batches from its acked length on.
     pub fn resend(&self, node: u32) -> Resend
-        ensures { result ≡ resend_of self.now node }
+        ensures rule { result ≡ resend_of self.now node }
+        ensures there { (slot : ℕ) → result ≡ Resend.From slot → slot < length self.now.log }
+        ensures acked_first { (slot : ℕ) → result ≡ Resend.From slot → self.now.first ≤ slot }
     {
         let acked = self.acked(node);
         if acked < self.first {
