@@ -4,6 +4,7 @@ pub mod Inv
 pub mod Led
 pub mod Prefixes
 pub mod Room
+pub mod Rule
 pub mod Stays
 pub mod Steps
 pub mod Updates

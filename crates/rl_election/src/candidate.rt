@@ -1,8 +1,8 @@
 //! A candidate of an epoch.
 
-ghost use Rattle.std.specs.Prelude.{◌≡◌, ℕ, ◌-◌, ◌<◌, ◌≤◌, ◌↔◌, ◌&&◌, length, not, IfOk, IsErrOf};
+ghost use Rattle.std.specs.Prelude.{◌≡◌, ℕ, ◌-◌, ◌<◌, ◌≤◌, ◌↔◌, ◌&&◌, [], length, not, slice_index_or, IfOk, IsErrOf};
 ghost use Rattle.rl_paxos.specs.Quorums.{is_node};
-ghost use Rattle.rl_paxos.specs.Recovery.{new_candidate, counts, has_promised, recovered, recovered_logs};
+ghost use Rattle.rl_paxos.specs.Recovery.{new_candidate, counts, has_promised, recovered, recovered_logs, IsRecovered};
 
 use crate::promise::Promise;
 use crate::recover_error::RecoverError;
@@ -74,6 +74,7 @@ impl Candidate {
     /// The recovered log of each stream, copied. `NotYet` exactly while fewer nodes have promised than are needed.
     pub fn recover(&self, alloc: Global) -> Result<Logs, RecoverError>
         ensures ok { IfOk result (λ logs. logs ≡ recovered_logs self.now.promises self.now.streams) }
+        ensures rule { IfOk result (λ logs. (s : ℕ) → 1 ≤ s → s ≤ self.now.streams → IsRecovered self.now.promises s (slice_index_or logs (s - 1) [])) }
         ensures early { IsErrOf result (RecoverError.NotYet (length self.now.promises) self.now.need) ↔ (length self.now.promises < self.now.need) }
         ensures exact { (have need : ℕ) → IsErrOf result (RecoverError.NotYet have need) → (have ≡ length self.now.promises) × (need ≡ self.now.need) }
     {
@@ -198,6 +199,31 @@ mod tests {
         );
         let logs = candidate.recover(alloc)?;
         assert_eq!(rt; logs.len(), 1);
+        let log = logs.get(0);
+        assert_eq!(rt; log.len(), 1);
+        assert_eq!(rt; log.get(0).as_slice(), b"a".as_slice());
+        Ok(())
+    }
+
+    #[test]
+    fn one_log_of_three_and_no_slot_of_another(
+        rt: HostRuntime,
+    ) -> Result<(), Fail> {
+        let alloc = rt.alloc();
+        let mut candidate = Candidate::start(alloc, 4, 3, 1, 3)?;
+        let _ = candidate.promise(
+            1,
+            ballots(alloc, 1)?,
+            logs(alloc, b"ab")?,
+        );
+        let _ = candidate.promise(
+            2,
+            ballots(alloc, 2)?,
+            logs(alloc, b"ac")?,
+        );
+        let _ =
+            candidate.promise(3, ballots(alloc, 3)?, logs(alloc, b"a")?);
+        let logs = candidate.recover(alloc)?;
         let log = logs.get(0);
         assert_eq!(rt; log.len(), 1);
         assert_eq!(rt; log.get(0).as_slice(), b"a".as_slice());

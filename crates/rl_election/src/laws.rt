@@ -1,6 +1,6 @@
 //! Laws of streams alone, whatever is sent, lost, sent again or delayed, and whichever nodes crash, return or are lost.
 
-ghost use Rattle.std.specs.Prelude.{◌≡◌, ℕ, List, [], ◌∷◌, ◌++◌, ◌<◌, take, IsTrue};
+ghost use Rattle.std.specs.Prelude.{◌≡◌, ℕ, List, [], ◌∷◌, ◌++◌, ◌<◌, ◌≤◌, take, IsTrue};
 ghost use Rattle.rl_paxos.specs.Acceptors.{ballot_of, log_of};
 ghost use Rattle.rl_paxos.specs.Leaders.{Leading, IsLed};
 ghost use Rattle.rl_paxos.specs.Logs.{Batch, Log, IsPrefix};
@@ -17,9 +17,11 @@ pub fn agreement()
 {}
 
 /// After any list of events, a log that a node keeps at a ballot begins with the first log of that epoch, and is a
-/// prefix of what its leader has, or last had.
+/// prefix of what its leader has, or last had. At ballot 0 it keeps no batch, and no ballot is above its promise.
 pub fn adoption()
-    ensures { (g : Setting) (events : List Event) (a s : ℕ) → IsTrue (is_stream g s) → 0 < ballot_of ((after g (opening g) events).node a).acceptor s → IsAdopted (after g (opening g) events) (ballot_of ((after g (opening g) events).node a).acceptor s) s (log_of ((after g (opening g) events).node a).acceptor s) }
+    ensures adopted { (g : Setting) (events : List Event) (a s : ℕ) → IsTrue (is_stream g s) → 0 < ballot_of ((after g (opening g) events).node a).acceptor s → IsAdopted (after g (opening g) events) (ballot_of ((after g (opening g) events).node a).acceptor s) s (log_of ((after g (opening g) events).node a).acceptor s) }
+    ensures none { (g : Setting) (events : List Event) (a s : ℕ) → ballot_of ((after g (opening g) events).node a).acceptor s ≡ 0 → log_of ((after g (opening g) events).node a).acceptor s ≡ [] }
+    ensures below { (g : Setting) (events : List Event) (a s : ℕ) → ballot_of ((after g (opening g) events).node a).acceptor s ≤ ((after g (opening g) events).node a).acceptor.promised }
 {}
 
 /// After any list of events, what a leader counts as led is a prefix of what is chosen at its epoch.

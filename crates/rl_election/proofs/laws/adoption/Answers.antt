@@ -5,8 +5,8 @@ use Rattle.rl_election.proofs.Inv.{Inv, InLed, first_at, log_at}
 use Rattle.rl_election.proofs.Steps.{after_inv, opening_inv}
 use Rattle.rl_election.proofs.laws.adoption.Goals as goal
 
-pub returns : goal.returns
-returns c = λ g events a s there above.
+pub returns-clause-adopted : goal.returns-clause-adopted
+returns-clause-adopted c = λ g events a s there above.
     let w : World = after g (opening g) events in
     let inv : Inv g w = after_inv g events (opening g) (opening_inv g) in
     let x : Acceptor = (w.node a).acceptor in
@@ -19,3 +19,9 @@ returns c = λ g events a s there above.
       begins = led.begins;
       within = led.within;
     }
+
+pub returns-clause-none : goal.returns-clause-none
+returns-clause-none c = λ g events a s zero. (((after_inv g events (opening g) (opening_inv g)).node_ok a).kept (s - 1)).none zero
+
+pub returns-clause-below : goal.returns-clause-below
+returns-clause-below c = λ g events a s. (((after_inv g events (opening g) (opening_inv g)).node_ok a).kept (s - 1)).below
