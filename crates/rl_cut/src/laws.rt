@@ -5,7 +5,7 @@ ghost use Rattle.rl_cut.specs.Leaders.{HistoriesGoOn};
 
 /// Where each log of a family is a prefix of a log of a larger one, along whose logs the stamps rise, the
 /// history of the family is a prefix of that of the larger one: its items up to the family's watermark.
-pub fn histories_nest()
+pub fn monotone()
     ensures nest { HistoriesNest }
     ensures cut { WatermarkCuts }
 {}

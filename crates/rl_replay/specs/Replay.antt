@@ -93,12 +93,12 @@ AreDistinct xs = AllPairs (λ x y. x.stamp ≢ y.stamp) xs
 abbrev pub IsReplay : Rows → Replaying → Type 0
 IsReplay opening r = AreDistinct r.applied → r.rows ≡ after opening (in_order r.applied)
 
--- after want of memory a front of the next item's writes is made, and nothing else has changed
-pub record HasFailed (next : Option Entry) (old new : Replaying) : Type 0 where
+-- after want of memory a front of the writes that the answer would have made is made, and nothing else has changed
+pub record HasFailed (p : Played) (next : Option Entry) (old new : Replaying) : Type 0 where
   pub failed : new.failed ≡ true
   pub applied : new.applied ≡ old.applied
   pub played : new.played ≡ old.played
-  pub front : (n : ℕ) × (new.rows ≡ after_writes old.rows (take n (made old.applied (option_to_list (item_in next)))))
+  pub front : (n : ℕ) × (new.rows ≡ after_writes old.rows (take n (made old.applied (added p next))))
 
 -- some item has this stamp
 abbrev pub HasStamp : List Item → Stamp → Type 0

@@ -95,8 +95,8 @@ impl Replica {
     /// Plays the next entry of a stream, in the first `known` batches of its log, with the bound of the
     /// entry's epoch and the seq of the watermark.
     ///
-    /// Want of memory leaves the applied items and the cursors as they were. A front of the item's writes
-    /// may stand in the rows then, and every later call answers `Memory`.
+    /// Want of memory leaves the applied items and the cursors as they were. A front of the writes of an item
+    /// that was to be applied may stand in the rows then; every later `play` answers `Memory` and changes nothing.
     pub fn play(
         &mut self,
         alloc: Global,
@@ -112,8 +112,9 @@ impl Replica {
         ensures answer { IfOk result (λ p. p ≡ answer (next_entry self.old stream (take known log.now)) bound watermark) }
         ensures state { IfOk result (λ p. self.new ≡ after_answer self.old stream (next_entry self.old stream (take known log.now)) p) }
         ensures replay { (opening : Rows) → IsReplay opening self.old → OnOk result (IsReplay opening self.new) }
-        ensures err { OnErr result (HasFailed (next_entry self.old stream (take known log.now)) self.old self.new) }
+        ensures err { let next = next_entry self.old stream (take known log.now) in OnErr result (HasFailed (answer next bound watermark) next self.old self.new) }
         ensures stays_failed { self.old.failed ≡ true → IsErr result }
+        ensures failed_is_kept { self.old.failed ≡ true → self.new ≡ self.old }
     {
         if self.failed {
             return Err(Memory);
@@ -142,7 +143,7 @@ impl Replica {
         requires place { place < length (entries_of batch.now) }
         ensures answer { IfOk result (λ p. p ≡ answer (slice_get (entries_of batch.now) place) bound watermark) }
         ensures state { IfOk result (λ p. self.new ≡ after_answer self.old stream (slice_get (entries_of batch.now) place) p) }
-        ensures err { OnErr result (HasFailed (slice_get (entries_of batch.now) place) self.old self.new) }
+        ensures err { let next = slice_get (entries_of batch.now) place in OnErr result (HasFailed (answer next bound watermark) next self.old self.new) }
     {
         match batch {
             Batch::Items(items) => {
@@ -167,7 +168,7 @@ impl Replica {
         requires working { self.old.failed ≡ false }
         ensures answer { IfOk result (λ p. p ≡ item_answer item.now.stamp bound watermark) }
         ensures state { IfOk result (λ p. self.new ≡ after_answer self.old stream (Some (item_entry item.now)) p) }
-        ensures err { OnErr result (HasFailed (Some (item_entry item.now)) self.old self.new) }
+        ensures err { OnErr result (HasFailed (item_answer item.now.stamp bound watermark) (Some (item_entry item.now)) self.old self.new) }
     {
         match answer_item(item.stamp, bound, watermark) {
             Played::Applied { stamp } => self.apply(alloc, stream, item),
@@ -185,7 +186,7 @@ impl Replica {
         requires working { self.old.failed ≡ false }
         ensures answer { IfOk result (λ p. p ≡ Played.Applied item.now.stamp) }
         ensures state { OnOk result (self.new ≡ after_answer self.old stream (Some (item_entry item.now)) (Played.Applied item.now.stamp)) }
-        ensures err { OnErr result (HasFailed (Some (item_entry item.now)) self.old self.new) }
+        ensures err { OnErr result (HasFailed (Played.Applied item.now.stamp) (Some (item_entry item.now)) self.old self.new) }
     {
         self.keep(alloc, item)?;
         self.advance(stream);
@@ -196,7 +197,7 @@ impl Replica {
     fn keep(&mut self, alloc: Global, item: &Item) -> Result<(), Memory>
         requires { self.old.failed ≡ false }
         ensures kept { OnOk result (self.new ≡ record self.old { applied = self.old.applied ++ item.now ∷ []; rows = after_writes self.old.rows (newest_writes self.old.applied item.now) }) }
-        ensures err { OnErr result (HasFailed (Some (item_entry item.now)) self.old self.new) }
+        ensures err { OnErr result (HasFailed (Played.Applied item.now.stamp) (Some (item_entry item.now)) self.old self.new) }
     {
         self.failed = true;
         let kept = self.applied.len();
