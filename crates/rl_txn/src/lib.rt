@@ -1,9 +1,6 @@
 //! Transactions, what they do, and what is kept of those that have run.
 #![tactic(auto)]
 
-#[cfg(test)]
-
-mod tests;
 pub mod batch;
 pub mod eval;
 pub mod item;
@@ -12,5 +9,7 @@ pub mod progress;
 pub mod row_set;
 pub mod run;
 pub mod serial;
+#[cfg(test)]
+mod tests;
 pub mod workspace;
 pub mod write;
