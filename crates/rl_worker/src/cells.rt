@@ -90,11 +90,11 @@ impl Cells {
     }
 
     /// One cell.
-    pub fn get(&self, i: usize) -> u64
+    pub fn get(&self, i: u32) -> u64
         requires { i < length self.now }
         ensures { result ≡ slice_index self.now i }
     {
-        self.cells[i]
+        self.cells[i as usize]
     }
 
     /// An equal value.
