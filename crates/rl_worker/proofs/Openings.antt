@@ -22,10 +22,10 @@ index_of_get (y ∷ xs) (suc i) x e = index_of_get xs i x e
 
 -- a record with the stamp, and the cells of the row, of its number
 pub opened : (tables : List Table) (rows : Rows) (stamps : List ℕ) (r : ℕ) (x : Record) (place : ℕ × ℕ) (columns : ℕ) (row : Option (List ℕ)) → slice_get stamps r ≡ Some x.stamp → x.holder ≡ None
-    → place ≡ place_of (sizes_of tables) r → columns ≡ columns_of tables place.0 → row ≡ finite.get rows (place.0, place.1) → x.cells.items ≡ cells_of columns row → as_rec x ≡ opening_rec tables rows stamps r
+    → place ≡ place_of (sizes_of tables) r → columns ≡ columns_of tables place.0 → row ≡ finite.get rows (place.0, place.1) → x.cells ≡ cells_of columns row → as_rec x ≡ opening_rec tables rows stamps r
 opened tables rows stamps r x place columns row s h p c o e =
     let stamp : x.stamp ≡ slice_index stamps r = sym (index_of_get stamps r x.stamp s) in
-    let cells : x.cells.items ≡ cells_of (columns_of tables (place_of (sizes_of tables) r).0) (finite.get rows (place_of (sizes_of tables) r)) =
+    let cells : x.cells ≡ cells_of (columns_of tables (place_of (sizes_of tables) r).0) (finite.get rows (place_of (sizes_of tables) r)) =
     e ∙ ap (λ n. cells_of n row) c ∙ ap (cells_of (columns_of tables place.0)) o ∙ ap (λ (q : ℕ × ℕ). cells_of (columns_of tables q.0) (finite.get rows q)) p in
     λ i. record { stamp = stamp i; holder = h i; cells = cells i }
 

@@ -2,5 +2,6 @@
 #![tactic(auto)]
 
 pub mod act;
+pub mod cells;
 pub mod laws;
 pub mod words;

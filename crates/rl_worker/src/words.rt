@@ -1,17 +1,16 @@
 //! The records of an open leader.
 
-ghost use Rattle.std.specs.Prelude.{◌≡◌, ◌*◌, ◌+◌, ◌^◌, ◌<◌, ◌≤◌, ◌∷◌, IfOk, length, sum, replicate, map, is_some, if◌then◌else◌};
-ghost use Rattle.std.specs.Option.{option_copied};
+ghost use Rattle.std.specs.Prelude.{◌≡◌, ◌*◌, ◌+◌, ◌^◌, ◌<◌, ◌≤◌, IfOk, length, sum, is_some, if◌then◌else◌};
 ghost use Rattle.rl_tables.specs.Numbers.{sizes_of};
-ghost use Rattle.rl_worker.specs.Opening.{cells_of, opening_recs};
+ghost use Rattle.rl_worker.specs.Opening.{opening_recs};
 ghost use Rattle.rl_worker.specs.Words.{recs_of};
 
+use crate::cells::Cells;
 use rl_base::list::Stamps;
 use rl_base::memory::Memory;
 use rl_base::word::{locked, word_of};
 use rl_tables::layout::Layout;
 use rl_value::map::Map;
-use rl_value::row::Row;
 use rl_value::schema::Schema;
 use std::alloc::Global;
 
@@ -21,7 +20,7 @@ use std::alloc::Global;
 pub struct Record {
     pub stamp: u64,
     pub holder: Option<u32>,
-    pub cells: Vec<u64>,
+    pub cells: Cells,
 }
 
 /// The records by number, and the next seq.
@@ -53,7 +52,7 @@ impl Words {
             records.push(Record {
                 stamp: *stamps.get(rec as usize),
                 holder: None,
-                cells: cells_of_row(alloc, columns, map.get(table, key))?,
+                cells: Cells::of_row(columns, map.get(table, key)),
             })?;
         }
         Ok(Words { records, next: 2 })
@@ -74,38 +73,10 @@ impl Record {
     }
 }
 
-/// The cells of a row, or of its absence.
-fn cells_of_row(alloc: Global, columns: u32, row: Option<&Row>) -> Result<Vec<u64>, Memory>
-    requires { columns ≤ 4 }
-    ensures { IfOk result (λ cells. cells.items ≡ cells_of columns (option_copied row.entry)) }
-{
-    match row {
-        Some(row) => {
-            let mut cells = Vec::new(alloc);
-            cells.push(1)?;
-            cells.extend_from_slice(row.as_slice())?;
-            Ok(cells)
-        }
-        None => zeros(alloc, columns),
-    }
-}
-
-/// No presence, and zeros for the columns.
-fn zeros(alloc: Global, columns: u32) -> Result<Vec<u64>, Memory>
-    requires { columns ≤ 4 }
-    ensures { IfOk result (λ cells. cells.items ≡ 0 ∷ replicate columns 0) }
-{
-    let mut cells = Vec::new(alloc);
-    cells.push(0)?;
-    for _ in 0..columns {
-        cells.push(0)?;
-    }
-    Ok(cells)
-}
-
 #[cfg(test)]
 mod tests {
     use super::*;
+    use rl_value::row::Row;
     use std::test::Fail;
 
     #[test]

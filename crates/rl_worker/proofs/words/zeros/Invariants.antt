@@ -1,5 +1,0 @@
-use Rattle.std.proofs.Common.{◌≡◌, ◌∷◌, replicate}
-use Rattle.rl_worker.proofs.words.zeros.Given as goal
-
-abbrev pub invariant-loop : goal.invariant-loop
-invariant-loop l = l.cells.items ≡ 0 ∷ replicate l.counter 0

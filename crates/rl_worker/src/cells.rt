@@ -1,0 +1,109 @@
+//! The cells of a record.
+
+ghost use Rattle.std.specs.Prelude.{◌≡◌, ◌+◌, ◌<◌, ◌≤◌, ◌∷◌, [], ◌++◌, length, slice_index, slice_set, replicate, IfSome};
+ghost use Rattle.std.specs.Option.{option_copied};
+ghost use Rattle.rl_worker.specs.Opening.{cells_of, row_of};
+
+use rl_value::row::Row;
+use std::marker::Model;
+
+/// Presence (0 or 1), and one to four columns. They take no memory of their own.
+#[derive(Debug, Drop)]
+pub struct Cells {
+    cells: [u64; 5],
+    count: usize,
+}
+
+impl Model for Cells {
+    ghost use Rattle.std.specs.Prelude.{List, ℕ, take, ◌≤◌};
+
+    ghost Value = { List ℕ };
+
+    ghost view = { λ c. take c.count c.cells };
+
+    ghost invariant = { λ c. c.count ≤ 5 };
+}
+
+impl Cells {
+    /// No cells yet.
+    pub fn new() -> Cells
+        ensures { result ≡ [] }
+    {
+        Cells {
+            cells: [0; 5],
+            count: 0,
+        }
+    }
+
+    /// The cells of a row, or of its absence.
+    pub fn of_row(columns: u32, row: Option<&Row>) -> Cells
+        requires few { columns ≤ 4 }
+        ensures cells { result ≡ cells_of columns (option_copied row.entry) }
+    {
+        match row {
+            Some(row) => Self::present(row),
+            None => Self::absent(columns),
+        }
+    }
+
+    /// The cells of a row.
+    fn present(row: &Row) -> Cells
+        ensures { result ≡ 1 ∷ row.now }
+    {
+        let count = row.columns();
+        let mut cells = Self::new();
+        cells.push(1);
+        for c in 0..count {
+            cells.push(row.column(c));
+        }
+        cells
+    }
+
+    /// No presence, and zeros for the columns.
+    fn absent(columns: u32) -> Cells
+        requires { columns ≤ 4 }
+        ensures { result ≡ 0 ∷ replicate columns 0 }
+    {
+        let mut cells = Self::new();
+        cells.push(0);
+        for _ in 0..columns {
+            cells.push(0);
+        }
+        cells
+    }
+
+    /// Appends a cell.
+    pub fn push(&mut self, value: u64)
+        requires { length self.old < 5 }
+        ensures { self.new ≡ self.old ++ value ∷ [] }
+    {
+        self.cells[self.count] = value;
+        self.count += 1;
+    }
+
+    /// How many cells there are, up to five.
+    pub fn len(&self) -> usize
+        ensures count { result ≡ length self.now }
+        ensures few { result ≤ 5 }
+    {
+        self.count
+    }
+
+    /// One cell.
+    pub fn get(&self, i: u32) -> u64
+        requires { i < length self.now }
+        ensures { result ≡ slice_index self.now i }
+    {
+        self.cells[i as usize]
+    }
+
+    /// An equal value.
+    pub fn copy(&self) -> Cells
+        ensures { result ≡ self.now }
+    {
+        Cells {
+            cells: self.cells,
+            count: self.count,
+        }
+    }
+}
