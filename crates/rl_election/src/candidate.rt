@@ -206,23 +206,12 @@ mod tests {
     }
 
     #[test]
-    fn one_log_of_three_and_no_slot_of_another(
-        rt: HostRuntime,
-    ) -> Result<(), Fail> {
+    fn one_log_of_three_and_no_slot_of_another(rt: HostRuntime) -> Result<(), Fail> {
         let alloc = rt.alloc();
         let mut candidate = Candidate::start(alloc, 4, 3, 1, 3)?;
-        let _ = candidate.promise(
-            1,
-            ballots(alloc, 1)?,
-            logs(alloc, b"ab")?,
-        );
-        let _ = candidate.promise(
-            2,
-            ballots(alloc, 2)?,
-            logs(alloc, b"ac")?,
-        );
-        let _ =
-            candidate.promise(3, ballots(alloc, 3)?, logs(alloc, b"a")?);
+        let _ = candidate.promise(1, ballots(alloc, 1)?, logs(alloc, b"ab")?);
+        let _ = candidate.promise(2, ballots(alloc, 2)?, logs(alloc, b"ac")?);
+        let _ = candidate.promise(3, ballots(alloc, 3)?, logs(alloc, b"a")?);
         let logs = candidate.recover(alloc)?;
         let log = logs.get(0);
         assert_eq!(rt; log.len(), 1);
