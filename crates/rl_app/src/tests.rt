@@ -3,6 +3,7 @@ use rl_base::list::{Bytes, Fails};
 use rl_io::memory_sink::MemSink;
 use rl_io::memory_source::MemSource;
 use std::alloc::Global;
+use std::process::Abort;
 use std::test::Fail;
 
 const TRANSFERS: &str =
@@ -68,35 +69,50 @@ fn scripts_have_their_reports(rt: HostRuntime) -> Result<(), Fail> {
     Ok(())
 }
 
-#[test]
-fn faults_and_limits_have_their_lines(rt: HostRuntime) -> Result<(), Fail> {
+/// Words that are no command have the usage line.
+fn refused(rt: &impl Abort, alloc: Global, words: &[&str]) -> Result<(), Fail> {
     let usage =
         "usage: rolis serial, steps, sim, live, check, gen script S N W R, gen run S N W R\n";
+    let (status, held) = outcome(alloc, words, TRANSFERS.as_bytes(), 0, 0)?;
+    assert_eq!(rt; status, 2);
+    assert_eq!(rt; held.as_slice(), usage.as_bytes());
+    Ok(())
+}
+
+#[test]
+fn words_that_are_no_command_are_refused(rt: HostRuntime) -> Result<(), Fail> {
+    refused(&rt, rt.alloc(), &[])?;
+    let capital = ["Serial"];
+    refused(&rt, rt.alloc(), &capital)?;
+    let twice = ["serial", "serial"];
+    refused(&rt, rt.alloc(), &twice)
+}
+
+#[test]
+fn faults_have_their_lines(rt: HostRuntime) -> Result<(), Fail> {
+    let serial = ["serial"];
     let transfers = TRANSFERS.as_bytes();
-    for words in [
-        [].as_slice(),
-        ["Serial"].as_slice(),
-        ["serial", "serial"].as_slice(),
-    ] {
-        let (status, held) = outcome(rt.alloc(), words, transfers, 0, 0)?;
-        assert_eq!(rt; status, 2);
-        assert_eq!(rt; held.as_slice(), usage.as_bytes());
-    }
-    let (status, held) = outcome(rt.alloc(), &["serial"], transfers, 1, 0)?;
-    assert_eq!(rt; (status, held.as_slice()), (5, b"read fault\n".as_slice()));
-    let (status, held) = outcome(rt.alloc(), &["serial"], transfers, 0, 2)?;
+    let (status, held) = outcome(rt.alloc(), &serial, transfers, 1, 0)?;
+    assert_eq!(rt; status, 5);
+    assert_eq!(rt; held.as_slice(), b"read fault\n".as_slice());
+    let (status, held) = outcome(rt.alloc(), &serial, transfers, 0, 2)?;
     assert_eq!(rt; status, 6);
     assert_eq!(rt;
         held.as_slice(),
         b"rolis serial\nitems 2\nitem 1 2 1 1 done 7".as_slice()
     );
     let (status, held) = outcome(rt.alloc(), &[], transfers, 0, 1)?;
-    assert_eq!(rt; (status, held.len()), (6, 0));
+    assert_eq!(rt; status, 6);
+    assert_eq!(rt; held.len(), 0);
+    Ok(())
+}
+
+#[test]
+fn a_long_input_passes_the_limit(rt: HostRuntime) -> Result<(), Fail> {
+    let serial = ["serial"];
     let long = vec![in rt.alloc(); b' '; 4194305]?;
-    let (status, held) = outcome(rt.alloc(), &["serial"], long.as_slice(), 0, 0)?;
-    assert_eq!(rt;
-        (status, held.as_slice()),
-        (4, b"limit input 4194304\n".as_slice())
-    );
+    let (status, held) = outcome(rt.alloc(), &serial, long.as_slice(), 0, 0)?;
+    assert_eq!(rt; status, 4);
+    assert_eq!(rt; held.as_slice(), b"limit input 4194304\n".as_slice());
     Ok(())
 }
