@@ -111,14 +111,14 @@ module _ (S : Setting) where
     first_load_good : (q : ℕ) (reads : List Read) (r : ℕ) → σ.workers w ≡ Wanting q reads r → (h : Option ℕ) → (get_or c.recs r no_rec).holder ≡ h
         → Good (after c w r (first_load_of w q reads r (get_or c.recs r no_rec) h))
     first_load_good q reads r e None f = local_good r (Loading q reads r (σ.recs r).stamp []) (first_load_inv S L σ w q r reads g.inv e)
-    first_load_good q reads r e (Some v) f = lost_good q r (Rest q) (Locked (Some v)) (other_holder r v f (rw e refl)) (give_up_inv S L σ w q r reads g.inv e)
+    first_load_good q reads r e (Some v) f = lost_good q r (Rest q) (Locked (Some v) (σ.recs r).stamp) (other_holder r v f (rw e refl)) (give_up_inv S L σ w q r reads g.inv e)
 
     confirm_good : (q : ℕ) (reads : List Read) (r seen : ℕ) (loaded : List ℕ) → σ.workers w ≡ Loading q reads r seen loaded → length (σ.recs r).cells ≤ length loaded
         → (h : Option ℕ) → (get_or c.recs r no_rec).holder ≡ h → Good (after c w r (confirm_of w q reads r seen loaded (get_or c.recs r no_rec) h))
     confirm_good q reads r seen loaded e long None f = by_test (λ z. Good (after c w r z)) ((σ.recs r).stamp == seen) _ _
         (λ t. local_good r (Asking q (with_read (record { rec = r; seen = seen; row = loaded }) reads)) (confirm_inv S L σ w q r seen reads loaded g.inv e long f (eqb-true (σ.recs r).stamp seen t)))
         (λ t. lost_good q r (Rest q) (Changed None seen (σ.recs r).stamp) (refl, λ i. true≢false (sym (eq-eqb (σ.recs r).stamp seen i) ∙ t)) (give_up_load_inv S L σ w q r seen reads loaded g.inv e))
-    confirm_good q reads r seen loaded e long (Some v) f = lost_good q r (Rest q) (Locked (Some v)) (other_holder r v f (rw e refl)) (give_up_load_inv S L σ w q r seen reads loaded g.inv e)
+    confirm_good q reads r seen loaded e long (Some v) f = lost_good q r (Rest q) (Locked (Some v) (σ.recs r).stamp) (other_holder r v f (rw e refl)) (give_up_load_inv S L σ w q r seen reads loaded g.inv e)
 
     lock_good : (q : ℕ) (reads : List Read) (answer : Answer) (locked : List Install) (y : Install) (todo : List Install) → σ.workers w ≡ Locking q reads answer locked (y ∷ todo)
         → (h : Option ℕ) → (get_or c.recs y.rec no_rec).holder ≡ h → Good (after c w y.rec (lock_of w q reads answer locked y todo (get_or c.recs y.rec no_rec) h))
@@ -127,7 +127,7 @@ module _ (S : Setting) where
         elim h as (λ z. (get_or c.recs y.rec no_rec).holder ≡ z → Good (after c w y.rec (lock_of w q reads answer locked y todo (get_or c.recs y.rec no_rec) z))) [
           | None ↦ (λ n. sets_good y.rec (record { stamp = (σ.recs y.rec).stamp; holder = Some w; cells = (σ.recs y.rec).cells }) (Locking q reads answer (locked ++ y ∷ []) todo)
               (g.inside w q reads answer (locked ++ y ∷ todo) kn.ends y.rec (has_middle_at locked y todo)) (lock_inv S L σ w q reads answer locked y todo g.inv e n))
-          | Some v ↦ (λ n. lost_good q y.rec (Refusing q locked) (Locked (Some v))
+          | Some v ↦ (λ n. lost_good q y.rec (Refusing q locked) (Locked (Some v) (σ.recs y.rec).stamp)
               (other_holder y.rec v n (rw e (distinct_middle locked y todo (L.ends_ok w q reads answer (locked ++ y ∷ todo) kn.ends).0)))
               (lock_refused_inv S L σ w q reads answer locked (y ∷ todo) g.inv e))
         ] f
@@ -171,7 +171,7 @@ module _ (S : Setting) where
     micro_good (Locking q reads answer locked (y ∷ todo)) e = lock_good q reads answer locked y todo e (get_or c.recs y.rec no_rec).holder refl
     micro_good (Locking q reads answer locked []) e = draw_good q reads answer locked e
     micro_good (Validating q t done (y ∷ todo) answer writes) e = by_test (λ z. Good (after c w y.rec z)) (other w (σ.recs y.rec).holder) _ _
-        (λ f. lose_good q t done y todo answer writes (Locked (σ.recs y.rec).holder) f e)
+        (λ f. lose_good q t done y todo answer writes (Locked (σ.recs y.rec).holder (σ.recs y.rec).stamp) f e)
         (λ f. by_test (λ z. Good (after c w y.rec z)) ((σ.recs y.rec).stamp == y.seen) _ _
         (λ s. local_good y.rec (Validating q t (done ++ y ∷ []) todo answer writes)
         (validate_inv S L σ w q t done y todo answer writes g.inv e (alone_now S L σ w q t done y todo answer writes g.inv e f (eqb-true (σ.recs y.rec).stamp y.seen s))))

@@ -61,7 +61,7 @@ locked_stamps : stamps one_locked ≡ (first_stamp, 1) ∷ (first_stamp + 1, 2) 
 unfolding one_locked
 locked_stamps = refl
 
-locked_cause : one_locked.refusals ≡ record { worker = 2; index = 1; rec = 0; cause = Locked (Some 1) } ∷ []
+locked_cause : one_locked.refusals ≡ record { worker = 2; index = 1; rec = 0; cause = Locked (Some 1) 0 } ∷ []
 unfolding one_locked
 locked_cause = refl
 
@@ -81,7 +81,7 @@ skewed_stamps : stamps skewed ≡ (first_stamp + 1, 2) ∷ (first_stamp + 2, 1) 
 unfolding skewed
 skewed_stamps = refl
 
-skewed_cause : skewed.refusals ≡ record { worker = 1; index = 1; rec = 1; cause = Locked (Some 2) } ∷ []
+skewed_cause : skewed.refusals ≡ record { worker = 1; index = 1; rec = 1; cause = Locked (Some 2) 0 } ∷ []
 unfolding skewed
 skewed_cause = refl
 

@@ -3,9 +3,9 @@ use Rattle.std.specs.Prelude.{◌≡◌, ◌≢◌, ◌⊎◌, ℕ, zero, suc, �
 use Rattle.rl_worker.specs.Phases.{Answer, Read, Install, Rec, Outcome, Wants, Ends, Phase, Rest, Asking, Wanting, Loading, Locking, Validating, Storing, Refusing, Setting, has, with_read, asked, other}
 use Rattle.rl_worker.specs.Items.{Item, place}
 
--- why an attempt was refused: the holder then, or the stamp that it saw first and the stamp found
+-- why an attempt was refused: the holder then and the stamp found, or the stamp that it saw first beside them
 pub data Cause : Type 0 where
-  Locked : (holder : Option ℕ) → Cause
+  Locked : (holder : Option ℕ) → (found : ℕ) → Cause
   Changed : (holder : Option ℕ) → (seen found : ℕ) → Cause
 
 pub record Refusal : Type 0 where
@@ -16,7 +16,7 @@ pub record Refusal : Type 0 where
 
 -- a cause is true: another worker held the record, or none did and its stamp had moved
 abbrev pub IsTrueCause : ℕ → Cause → Type 0
-IsTrueCause w (Locked holder) = other w holder ≡ true
+IsTrueCause w (Locked holder found) = other w holder ≡ true
 IsTrueCause w (Changed holder seen found) = (other w holder ≡ false) × (found ≢ seen)
 
 abbrev pub AllTrue : List Refusal → Type 0
@@ -61,17 +61,17 @@ lost_drawn x p t w q r c = record { phase = p; rec = x; event = LostDrawn t (rec
 
 abbrev pub first_load_of : ℕ → ℕ → List Read → ℕ → Rec → Option ℕ → Moved
 first_load_of w q reads r x None = quiet x (Loading q reads r x.stamp [])
-first_load_of w q reads r x (Some v) = lost x (Rest q) w q r (Locked (Some v))
+first_load_of w q reads r x (Some v) = lost x (Rest q) w q r (Locked (Some v) x.stamp)
 
 abbrev pub confirm_of : ℕ → ℕ → List Read → ℕ → ℕ → List ℕ → Rec → Option ℕ → Moved
 confirm_of w q reads r seen loaded x None =
     if x.stamp == seen then quiet x (Asking q (with_read (record { rec = r; seen = seen; row = loaded }) reads)) else lost x (Rest q) w q r (Changed None seen x.stamp)
-confirm_of w q reads r seen loaded x (Some v) = lost x (Rest q) w q r (Locked (Some v))
+confirm_of w q reads r seen loaded x (Some v) = lost x (Rest q) w q r (Locked (Some v) x.stamp)
 
 abbrev pub lock_of : ℕ → ℕ → List Read → Answer → List Install → Install → List Install → Rec → Option ℕ → Moved
 lock_of w q reads answer locked y todo x None =
     quiet (record { stamp = x.stamp; holder = Some w; cells = x.cells }) (Locking q reads answer (locked ++ y ∷ []) todo)
-lock_of w q reads answer locked y todo x (Some v) = lost x (Refusing q locked) w q y.rec (Locked (Some v))
+lock_of w q reads answer locked y todo x (Some v) = lost x (Refusing q locked) w q y.rec (Locked (Some v) x.stamp)
 
 -- one small act of worker w in phase p, where x is what the record holds and n is the next stamp
 abbrev pub moved : Setting → ℕ → ℕ → Phase → Rec → Moved
@@ -84,7 +84,7 @@ moved S w n (Loading q reads r seen loaded) x =
 moved S w n (Locking q reads answer locked (y ∷ todo)) x = lock_of w q reads answer locked y todo x x.holder
 moved S w n (Locking q reads answer locked []) x = record { phase = Validating q n [] reads answer locked; rec = x; event = Drew reads answer locked }
 moved S w n (Validating q t done (y ∷ todo) answer writes) x =
-    if other w x.holder then lost_drawn x (Refusing q writes) t w q y.rec (Locked x.holder)
+    if other w x.holder then lost_drawn x (Refusing q writes) t w q y.rec (Locked x.holder x.stamp)
     else if x.stamp == y.seen then quiet x (Validating q t (done ++ y ∷ []) todo answer writes)
     else lost_drawn x (Refusing q writes) t w q y.rec (Changed x.holder y.seen x.stamp)
 moved S w n (Validating q t done [] answer writes) x =

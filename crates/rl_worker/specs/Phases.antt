@@ -2,16 +2,16 @@
 use Rattle.std.specs.Prelude.{◌≡◌, ℕ, zero, suc, List, [], ◌∷◌, Bool, true, false, not, ◌==◌, nat_lt, if◌then◌else◌, Option, Some, None}
 use Rattle.rl_txn.specs.declared.write.Reply.{Reply}
 use Rattle.rl_txn.specs.declared.write.Write.{Write}
+use Rattle.rl_worker.specs.declared.reads.Read as reads
+use Rattle.rl_worker.specs.declared.words.Record as words
 
 -- what a transaction answers and writes
 abbrev pub Answer : Type 0
 Answer = Reply × List Write
 
 -- a read that counts: the record, the stamp that was seen, and its cells, which are presence and columns
-pub record Read : Type 0 where
-  pub rec : ℕ
-  pub seen : ℕ
-  pub row : List ℕ
+abbrev pub Read : Type 0
+Read = reads.Read
 
 -- a record that is to be written, and its new cells
 pub record Install : Type 0 where
@@ -19,10 +19,8 @@ pub record Install : Type 0 where
   pub row : List ℕ
 
 -- a record: its stamp, the worker that holds it, its cells
-pub record Rec : Type 0 where
-  pub stamp : ℕ
-  pub holder : Option ℕ
-  pub cells : List ℕ
+abbrev pub Rec : Type 0
+Rec = words.Record
 
 -- what a transaction does next, given the records that it has read
 pub data Outcome : Type 0 where
