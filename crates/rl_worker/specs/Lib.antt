@@ -2,4 +2,4 @@ pub mod Acts
 pub mod Items
 pub mod Opening
 pub mod Phases
-pub mod Words
+pub mod Workers

@@ -1,5 +1,7 @@
 //! What one step of a worker does.
 
+ghost use Rattle.std.specs.Prelude.{◌≡◌, Some, None};
+
 use rl_base::refusal::Refusal;
 use rl_txn::item::Item;
 
@@ -27,4 +29,17 @@ pub struct Moved {
     pub refused: Option<Refusal>,
     /// The item of the attempt, if the step ended one that was decided.
     pub ended: Option<Item>,
+}
+
+impl Moved {
+    /// An act that came to a refusal, or to none.
+    pub fn by(act: Act, refused: Option<Refusal>) -> Moved
+        ensures { result ≡ record { act = act; refused = refused; ended = None } }
+    {
+        Moved {
+            act,
+            refused,
+            ended: None,
+        }
+    }
 }

@@ -8,7 +8,7 @@ use rl_value::row::Row;
 use std::marker::Model;
 
 /// Presence (0 or 1), and one to four columns. They take no memory of their own.
-#[derive(Debug, Drop)]
+#[derive(Debug, Default, Drop)]
 pub struct Cells {
     cells: [u64; 5],
     count: usize,
@@ -95,6 +95,26 @@ impl Cells {
         ensures { result ≡ slice_index self.now i }
     {
         self.cells[i as usize]
+    }
+
+    /// Puts another value in the place of a cell.
+    pub fn set(&mut self, i: u32, value: u64)
+        requires { i < length self.old }
+        ensures { self.new ≡ slice_set self.old i value }
+    {
+        self.cells[i as usize] = value;
+    }
+
+    /// The row that presence and one to four columns stand for.
+    pub fn to_row(&self) -> Option<Row>
+        requires { 2 ≤ length self.now }
+        ensures { result ≡ row_of self.now }
+    {
+        if self.cells[0] == 0 {
+            None
+        } else {
+            Some(Row::from_slice(&self.cells[1..self.count]))
+        }
     }
 
     /// An equal value.

@@ -3,5 +3,9 @@
 
 pub mod act;
 pub mod cells;
+mod commit;
 pub mod laws;
+mod reading;
+mod reads;
 pub mod words;
+pub mod worker;

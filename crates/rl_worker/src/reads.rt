@@ -1,6 +1,6 @@
 //! The reads of an attempt.
 
-ghost use Rattle.std.specs.Prelude.{◌≡◌, ◌+◌, ◌<◌, ◌≤◌, IfOk, IfSome, [], length, position, slice_get, Some};
+ghost use Rattle.std.specs.Prelude.{◌≡◌, ◌+◌, ◌<◌, ◌≤◌, IfOk, IfSome, [], length, position, nat_lt, slice_get, Some};
 ghost use Rattle.rl_worker.specs.Phases.{with_read};
 
 use crate::cells::Cells;
@@ -11,7 +11,7 @@ use std::marker::Model;
 
 /// A read of a record: the stamp that was seen first, and the cells, which are presence and the
 /// columns.
-#[derive(Debug, Drop)]
+#[derive(Debug, Default, Drop)]
 pub struct Read {
     pub rec: u32,
     pub seen: u64,

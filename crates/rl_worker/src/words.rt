@@ -1,13 +1,15 @@
 //! The records of an open leader.
 
-ghost use Rattle.std.specs.Prelude.{◌≡◌, ◌*◌, ◌+◌, ◌^◌, ◌<◌, ◌≤◌, IfOk, length, sum, is_some, if◌then◌else◌};
+ghost use Rattle.std.specs.Prelude.{◌≡◌, ◌*◌, ◌+◌, ◌^◌, ◌<◌, ◌≤◌, IfOk, length, sum, All, Some, None, ◌==◌, if◌then◌else◌};
 ghost use Rattle.rl_tables.specs.Numbers.{sizes_of};
 ghost use Rattle.rl_worker.specs.Opening.{opening_recs};
-ghost use Rattle.rl_worker.specs.Words.{recs_of};
+ghost use Rattle.rl_worker.specs.Phases.{other};
+ghost use Rattle.rl_worker.specs.Workers.{word, RecordsFit};
 
 use crate::cells::Cells;
 use rl_base::list::Stamps;
 use rl_base::memory::Memory;
+use rl_base::refusal::Refusal;
 use rl_base::word::{locked, word_of};
 use rl_tables::layout::Layout;
 use rl_value::map::Map;
@@ -41,7 +43,7 @@ impl Words {
     ) -> Result<Words, Memory>
         requires layout { layout.now ≡ sizes_of schema.now }
         requires stamps { length stamps.now ≡ sum layout.now }
-        ensures records { IfOk result (λ words. recs_of words ≡ opening_recs schema.now map.now stamps.now) }
+        ensures records { IfOk result (λ words. words.records.items ≡ opening_recs schema.now map.now stamps.now) }
         ensures next { IfOk result (λ words. words.next ≡ 2) }
     {
         let count = layout.count();
@@ -63,12 +65,45 @@ impl Record {
     /// Its word: twice the stamp, and the lock bit where a worker holds it.
     pub fn word(&self) -> u64
         requires { self.now.stamp < 2 ^ 60 }
-        ensures { result ≡ 2 * self.now.stamp + (if is_some self.now.holder then 1 else 0) }
+        ensures { result ≡ word self.now }
     {
         let word = word_of(self.stamp);
         match self.holder {
             Some(_) => locked(word),
             None => word,
+        }
+    }
+
+    /// Whether a worker other than this one holds it.
+    pub fn is_held_by_other(&self, worker: u32) -> bool
+        ensures { result ≡ other worker self.now.holder }
+    {
+        match self.holder {
+            Some(holder) => holder != worker,
+            None => false,
+        }
+    }
+
+    /// What stands against a read of it under a stamp, if anything: that it is locked by another, or has
+    /// another stamp now.
+    pub fn conflict(&self, rec: u32, seen: u64, is_locked: bool) -> Option<Refusal>
+        requires stamp { self.now.stamp < 2 ^ 60 }
+        requires seen { seen < 2 ^ 60 }
+        ensures { result ≡ (if is_locked then Some (Refusal.Locked rec (2 * self.now.stamp + 1)) else if self.now.stamp == seen then None else Some (Refusal.Changed rec (2 * seen) (2 * self.now.stamp))) }
+    {
+        if is_locked {
+            Some(Refusal::Locked {
+                rec,
+                word: locked(word_of(self.stamp)),
+            })
+        } else if self.stamp == seen {
+            None
+        } else {
+            Some(Refusal::Changed {
+                rec,
+                seen: word_of(seen),
+                found: word_of(self.stamp),
+            })
         }
     }
 }

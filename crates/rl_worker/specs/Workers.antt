@@ -1,0 +1,208 @@
+-- What a worker stands for among the phases, and what it keeps from step to step.
+use Rattle.std.specs.Prelude.{◌≡◌, ◌⊎◌, ℕ, zero, suc, ◌+◌, ◌*◌, ◌^◌, ◌<◌, ◌≤◌, List, [], ◌∷◌, ◌++◌, length, map, sum, get_or, take, drop, set, Bool, true, false, nat_lt, is_some, if◌then◌else◌, Option, Some, None, Result, Ok, Err, IfSome, IsSomeAnd, option_to_list, All}
+use Rattle.std.specs.Option.{option_map, option_map_or}
+use Rattle.rl_base.specs.declared.refusal.Refusal.{Refusal}
+use Rattle.rl_base.specs.declared.refusal.Refusal.TheVariants as refusals
+use Rattle.rl_base.specs.Stamps.{packed}
+use Rattle.rl_value.specs.Tables.{Table, size_of, columns_of}
+use Rattle.rl_tables.specs.Numbers.{sizes_of, place_of}
+use Rattle.rl_txn.specs.Eval.{IsEval, Awaits, awaited, known, reads_room}
+use Rattle.rl_txn.specs.declared.op.Op.{Op}
+use Rattle.rl_txn.specs.declared.write.Write.{Write}
+use Rattle.rl_txn.specs.declared.item.Item as txn
+use Rattle.rl_worker.specs.declared.act.Act.{Act}
+use Rattle.rl_worker.specs.declared.act.Act.TheVariants as act
+use Rattle.rl_worker.specs.declared.act.Moved as code
+use Rattle.rl_worker.specs.declared.words.Words.{Words}
+use Rattle.rl_worker.specs.declared.reading.Reading.{Reading}
+use Rattle.rl_worker.specs.declared.commit.Commit.{Commit}
+use Rattle.rl_worker.specs.declared.commit.Part.{Part}
+use Rattle.rl_worker.specs.declared.commit.Part.TheVariants as part
+use Rattle.rl_worker.specs.declared.worker.Stage.{Stage}
+use Rattle.rl_worker.specs.declared.worker.Stage.TheVariants as stage
+use Rattle.rl_worker.specs.declared.worker.Worker.{Worker}
+use Rattle.rl_worker.specs.Phases.{Read, Install, Rec, Phase, Rest, Asking, Wanting, Loading, Locking, Validating, Storing, Refusing, Setting}
+use Rattle.rl_worker.specs.Items.{Item, place}
+use Rattle.rl_worker.specs.Acts as acts
+use Rattle.rl_worker.specs.Acts.{Cause, Locked, Changed, Event, Quiet, Drew, Won, Lost, LostDrawn, Core, no_rec, target, moved, next_after}
+use Rattle.rl_worker.specs.Opening.{install_of, overlay_of, request}
+
+-- the record of a number, among some
+abbrev pub found : List Rec → ℕ → Rec
+found recs r = get_or recs r no_rec
+
+abbrev pub lock_bit : Rec → ℕ
+lock_bit x = if is_some x.holder then 1 else 0
+
+-- a record's word: twice the stamp, and the lock bit where a worker holds it
+abbrev pub word : Rec → ℕ
+word x = 2 * x.stamp + lock_bit x
+
+-- a refusal tells the words that were found
+abbrev pub refusal_at : ℕ → Cause → Refusal
+refusal_at r (Locked holder stamp) = refusals.Locked r (2 * stamp + 1)
+refusal_at r (Changed holder seen stamp) = refusals.Changed r (2 * seen) (2 * stamp)
+
+abbrev pub refused : acts.Refusal → Refusal
+refused f = refusal_at f.rec f.cause
+
+abbrev pub refusal_of : Event → Option Refusal
+refusal_of Quiet = None
+refusal_of (Drew reads answer writes) = None
+refusal_of (Won x) = None
+refusal_of (Lost f) = Some (refused f)
+refusal_of (LostDrawn t f) = Some (refused f)
+
+-- what an act tells of itself, where it finds a record and n is the next seq
+abbrev pub act_of : ℕ → Phase → Rec → Act
+act_of n (Rest q) x = act.Rest
+act_of n (Asking q reads) x = act.Rest
+act_of n (Wanting q reads r) x = act.FirstLoad r (word x)
+act_of n (Loading q reads r seen loaded) x =
+    if nat_lt (length loaded) (length x.cells) then act.ColumnLoad r (length loaded) (get_or x.cells (length loaded) 0) else act.Confirm r (word x)
+act_of n (Locking q reads answer locked []) x = act.Draw n
+act_of n (Locking q reads answer locked (y ∷ todo)) x = act.Lock y.rec (word x)
+act_of n (Validating q t done [] answer writes) x = act.Rest
+act_of n (Validating q t done (y ∷ todo) answer writes) x = act.Validate y.rec (word x)
+act_of n (Storing q t j []) x = act.Rest
+act_of n (Storing q t j (y ∷ todo)) x =
+    if nat_lt j (length y.row) then act.ColumnStore y.rec j (get_or y.row j 0) else act.Close y.rec (2 * t)
+act_of n (Refusing q []) x = act.Rest
+act_of n (Refusing q (y ∷ todo)) x = act.Close y.rec (2 * x.stamp)
+
+-- ---- what a worker stands for ----
+abbrev pub reading_phase : ℕ → Reading → Phase
+reading_phase q r = option_map_or (λ o. Loading q r.reads.0 o.rec o.seen o.row) r.loading (Wanting q r.reads.0 r.rec)
+
+-- a refused reading is over
+abbrev pub reading_left : ℕ → Reading → Option Refusal → Phase
+reading_left q r None = reading_phase q r
+reading_left q r (Some refusal) = Rest q
+
+-- a confirmed reading is between two records
+abbrev pub confirmed_phase : ℕ → Result Reading Refusal → Phase
+confirmed_phase q (Ok r) = Asking q r.reads.0
+confirmed_phase q (Err refusal) = Rest q
+
+abbrev pub installs : List Table → Commit → List Install
+installs tables c = map (install_of tables) c.item.writes
+
+abbrev pub part_phase : List Table → Commit → Part → Phase
+part_phase tables c (part.Locking held) = Locking c.item.index c.reads.0 (c.item.reply, c.item.writes) (take held (installs tables c)) (drop held (installs tables c))
+part_phase tables c (part.Validating done) = Validating c.item.index (packed c.item.stamp) (take done c.reads.0) (drop done c.reads.0) (c.item.reply, c.item.writes) (installs tables c)
+part_phase tables c (part.Storing place stored) = Storing c.item.index (packed c.item.stamp) stored (drop place (installs tables c))
+part_phase tables c (part.Refusing place held) = Refusing c.item.index (drop place (take held (installs tables c)))
+
+abbrev pub commit_phase : List Table → Commit → Phase
+commit_phase tables c = part_phase tables c c.part
+
+abbrev pub stage_phase : List Table → ℕ → Stage → Phase
+stage_phase tables q stage.Resting = Rest q
+stage_phase tables q (stage.Reading r) = reading_phase q r
+stage_phase tables q (stage.Committing c) = commit_phase tables c
+
+abbrev pub phase_of : List Table → Worker → Phase
+phase_of tables w = stage_phase tables w.index w.stage
+
+-- ---- what stays true of records and workers ----
+-- a record has presence and its table's columns, and its stamp fits a word
+pub record RecordFits (tables : List Table) (r : ℕ) (x : Rec) : Type 0 where
+  pub cells : length x.cells ≡ columns_of tables (place_of (sizes_of tables) r).0 + 1
+  pub some : 2 ≤ length x.cells
+  pub stamp : x.stamp < 2 ^ 60
+
+-- there is one record for each key
+pub record RecordsFit (tables : List Table) (recs : List Rec) : Type 0 where
+  pub count : length recs ≡ sum (sizes_of tables)
+  pub each : (r : ℕ) → r < length recs → RecordFits tables r (found recs r)
+
+-- a read is of a record that is there, and its stamp fits a word
+abbrev pub ReadFits : List Table → Read → Type 0
+ReadFits tables x = (x.rec < sum (sizes_of tables)) × (x.seen < 2 ^ 60)
+
+-- between two records: all that was read is known to the evaluation
+pub record IsAsking (tables : List Table) (txn : List Op) (r : Reading) : Type 0 where
+  pub eval : IsEval tables txn r.eval
+  pub known : known r.eval ≡ overlay_of tables r.reads.0
+  pub room : reads_room r.eval ≤ r.reads.1
+  pub closed : r.loading ≡ None
+  pub reads : All (ReadFits tables) r.reads.0
+
+-- the open read is of the wanted record, and has no more cells than that
+abbrev pub OpenFits : List Table → ℕ → Read → Type 0
+OpenFits tables r o = (o.rec ≡ r) × (o.seen < 2 ^ 60) × (length o.row ≤ columns_of tables (place_of (sizes_of tables) r).0 + 1)
+
+-- the evaluation waits for the record that is loaded
+pub record IsReading (tables : List Table) (txn : List Op) (r : Reading) : Type 0 where
+  pub eval : IsEval tables txn r.eval
+  pub known : known r.eval ≡ overlay_of tables r.reads.0
+  pub room : reads_room r.eval ≤ r.reads.1
+  pub reads : All (ReadFits tables) r.reads.0
+  pub awaits : Awaits r.eval
+  pub place : awaited r.eval ≡ place_of (sizes_of tables) r.rec
+  pub inside : r.rec < sum (sizes_of tables)
+  pub loading : IfSome r.loading (OpenFits tables r.rec)
+
+abbrev pub RowHas : ℕ → Option (List ℕ) → Type 0
+RowHas columns row = IfSome row (λ cells. length cells ≡ columns)
+
+-- a write is at a key that is there, with its table's columns
+abbrev pub WriteFits : List Table → Write → Type 0
+WriteFits tables w = (w.table < length tables) × (w.key < size_of tables w.table) × RowHas (columns_of tables w.table) w.row
+
+abbrev pub PartFits : Commit → Part → Type 0
+PartFits c (part.Locking held) = held ≤ length c.item.writes
+PartFits c (part.Validating done) = done ≤ length c.reads.0
+PartFits c (part.Storing place stored) = place ≤ length c.item.writes
+PartFits c (part.Refusing place held) = (place ≤ held) × (held ≤ length c.item.writes)
+
+pub record CommitFits (tables : List Table) (c : Commit) : Type 0 where
+  pub reads : All (ReadFits tables) c.reads.0
+  pub writes : All (WriteFits tables) c.item.writes
+  pub epoch : c.item.stamp.epoch < 2 ^ 20
+  pub seq : c.item.stamp.seq < 2 ^ 40
+  pub part : PartFits c c.part
+
+-- something is left to do in its part
+abbrev pub HasMore : Commit → Part → Type 0
+HasMore c (part.Locking held) = Unit {0}
+HasMore c (part.Validating done) = done < length c.reads.0
+HasMore c (part.Storing place stored) = place < length c.item.writes
+HasMore c (part.Refusing place held) = place < held
+
+-- in an attempt of a request: what its stage keeps, and that it is the attempt of this worker
+abbrev pub StageFits : List Table → List Op → Worker → Stage → Type 0
+StageFits tables txn w stage.Resting = Unit {0}
+StageFits tables txn w (stage.Reading r) = IsReading tables txn r
+StageFits tables txn w (stage.Committing c) =
+    CommitFits tables c × (c.item.worker ≡ w.number) × (c.item.index ≡ w.index) × (c.item.stamp.epoch ≡ w.epoch) × HasMore c c.part
+
+abbrev pub is_resting : Stage → Bool
+is_resting stage.Resting = true
+is_resting (stage.Reading r) = false
+is_resting (stage.Committing c) = false
+
+-- a worker of the lists: where it is in an attempt, its request is there
+pub record WorkerFits (tables : List Table) (lists : List (List (List Op))) (w : Worker) : Type 0 where
+  pub first : 1 ≤ w.number
+  pub list : w.number ≤ length lists
+  pub epoch : w.epoch < 2 ^ 20
+  pub stage : is_resting w.stage ≡ false → IsSomeAnd (request lists w.number w.index) (λ txn. StageFits tables txn w w.stage)
+
+-- ---- what an act of the code is ----
+-- the packed stamp that comes next
+abbrev pub stamp_next : ℕ → Words → ℕ
+stamp_next epoch words = epoch * 2 ^ 40 + words.next
+
+-- an act on the record that it looks at
+abbrev pub made : Setting → ℕ → ℕ → Phase → Words → acts.Moved
+made s w epoch p words = moved s w (stamp_next epoch words) p (found words.records.items (target p))
+
+-- the code made one act of worker w: the phases before and after, the words before and after, and what it tells
+pub record IsAct (s : Setting) (w epoch : ℕ) (p p' : Phase) (words words' : Words) (told : code.Moved) : Type 0 where
+  pub phase : p' ≡ (made s w epoch p words).phase
+  pub recs : words'.records.items ≡ set words.records.items (target p) (made s w epoch p words).rec
+  pub next : stamp_next epoch words' ≡ next_after (stamp_next epoch words) (made s w epoch p words).event
+  pub refused : told.refused ≡ refusal_of (made s w epoch p words).event
+  pub act : told.act ≡ act_of words.next p (found words.records.items (target p))
+  pub ended : told.ended ≡ None
