@@ -1,6 +1,9 @@
 pub mod Acts
 pub mod Basics
+pub mod Commits
+pub mod Endings
 pub mod Histories
+pub mod Inserts
 pub mod Installs
 pub mod Inv
 pub mod Keeps
@@ -10,6 +13,7 @@ pub mod Made
 pub mod Numbers
 pub mod Openings
 pub mod Places
+pub mod Readings
 pub mod Scripts
 pub mod Serial
 pub mod Settings

@@ -72,7 +72,7 @@ act_of n (Refusing q (y ∷ todo)) x = act.Close y.rec (2 * x.stamp)
 
 -- ---- what a worker stands for ----
 abbrev pub reading_phase : ℕ → Reading → Phase
-reading_phase q r = option_map_or (λ o. Loading q r.reads.0 o.rec o.seen o.row) r.loading (Wanting q r.reads.0 r.rec)
+reading_phase q r = if r.is_open then Loading q r.reads.0 r.next.rec r.next.seen r.next.row else Wanting q r.reads.0 r.next.rec
 
 -- a refused reading is over
 abbrev pub reading_left : ℕ → Reading → Option Refusal → Phase
@@ -125,12 +125,8 @@ pub record IsAsking (tables : List Table) (txn : List Op) (r : Reading) : Type 0
   pub eval : IsEval tables txn r.eval
   pub known : known r.eval ≡ overlay_of tables r.reads.0
   pub room : reads_room r.eval ≤ r.reads.1
-  pub closed : r.loading ≡ None
+  pub closed : r.is_open ≡ false
   pub reads : All (ReadFits tables) r.reads.0
-
--- the open read is of the wanted record, and has no more cells than that
-abbrev pub OpenFits : List Table → ℕ → Read → Type 0
-OpenFits tables r o = (o.rec ≡ r) × (o.seen < 2 ^ 60) × (length o.row ≤ columns_of tables (place_of (sizes_of tables) r).0 + 1)
 
 -- the evaluation waits for the record that is loaded
 pub record IsReading (tables : List Table) (txn : List Op) (r : Reading) : Type 0 where
@@ -139,9 +135,9 @@ pub record IsReading (tables : List Table) (txn : List Op) (r : Reading) : Type 
   pub room : reads_room r.eval ≤ r.reads.1
   pub reads : All (ReadFits tables) r.reads.0
   pub awaits : Awaits r.eval
-  pub place : awaited r.eval ≡ place_of (sizes_of tables) r.rec
-  pub inside : r.rec < sum (sizes_of tables)
-  pub loading : IfSome r.loading (OpenFits tables r.rec)
+  pub place : awaited r.eval ≡ place_of (sizes_of tables) r.next.rec
+  pub next : ReadFits tables r.next
+  pub cells : length r.next.row ≤ columns_of tables (place_of (sizes_of tables) r.next.rec).0 + 1
 
 abbrev pub RowHas : ℕ → Option (List ℕ) → Type 0
 RowHas columns row = IfSome row (λ cells. length cells ≡ columns)

@@ -58,7 +58,7 @@ impl Commit {
         ensures fits { CommitFits schema.now self.new }
         ensures records { RecordsFit schema.now words.new.records.items }
     {
-        let write = self.item.writes.get(held);
+        let write = &self.item.writes.as_slice()[held];
         let rec = layout.record(write.table, write.key);
         let record = &mut words.records[rec as usize];
         let word = record.word();
@@ -102,7 +102,7 @@ impl Commit {
         ensures act { (s : Setting) → IsAct s self.old.item.worker self.old.item.stamp.epoch (commit_phase schema.now self.old) (commit_phase schema.now self.new) words.now words.now result }
         ensures fits { CommitFits schema.now self.new }
     {
-        let read = self.reads.get(done);
+        let read = &self.reads.as_slice()[done];
         let rec = read.rec;
         let record = &words.records[rec as usize];
         let refused = record.conflict(rec, read.seen, record.is_held_by_other(self.item.worker));
@@ -140,7 +140,7 @@ impl Commit {
         ensures fits { CommitFits schema.now self.new }
         ensures records { RecordsFit schema.now words.new.records.items }
     {
-        let write = self.item.writes.get(place);
+        let write = &self.item.writes.as_slice()[place];
         let rec = layout.record(write.table, write.key);
         let record = &mut words.records[rec as usize];
         if stored <= schema.columns(write.table) {
@@ -193,7 +193,7 @@ impl Commit {
         ensures fits { CommitFits schema.now self.new }
         ensures records { RecordsFit schema.now words.new.records.items }
     {
-        let write = self.item.writes.get(place);
+        let write = &self.item.writes.as_slice()[place];
         let rec = layout.record(write.table, write.key);
         let record = &mut words.records[rec as usize];
         record.holder = None;

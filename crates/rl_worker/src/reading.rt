@@ -1,12 +1,14 @@
 //! The part of an attempt in which it runs its transaction and reads what that wants.
 
-ghost use Rattle.std.specs.Prelude.{◌≡◌, ℕ, ◌+◌, ◌*◌, ◌^◌, ◌<◌, ◌≤◌, IfOk, IfErr, IfSome, IfNone, MatchResult, Some, None, [], length, nat_le, is_some, true, false};
-ghost use Rattle.std.specs.Option.{option_map_or};
+ghost use Rattle.std.specs.Prelude.{◌≡◌, ℕ, ◌+◌, ◌*◌, ◌^◌, ◌<◌, ◌≤◌, IfOk, IfErr, IfSome, IfNone, MatchResult, List, ◌&&◌, Some, None, [], length, nat_le, true, false};
+ghost use Rattle.std.specs.FinMap as finite;
 ghost use Rattle.std.specs.Result.{result_err};
 ghost use Rattle.rl_txn.specs.Fits.{TxnFits};
-ghost use Rattle.rl_tables.specs.Numbers.{sizes_of};
+ghost use Rattle.rl_txn.specs.Eval.{Awaits, awaited, known, reads_room, IsEval};
+ghost use Rattle.rl_txn.specs.declared.op.Op.{Op};
+ghost use Rattle.rl_value.specs.Tables.{Table};
 ghost use Rattle.rl_worker.specs.Phases.{Setting, with_read};
-ghost use Rattle.rl_worker.specs.Acts.{moved};
+ghost use Rattle.rl_worker.specs.Opening.{row_of};
 ghost use Rattle.rl_worker.specs.Workers.{IsAsking, IsReading, RecordsFit, IsAct, found, word, reading_phase, reading_left, confirmed_phase};
 
 use crate::act::{Act, Moved};
@@ -21,13 +23,13 @@ use rl_value::schema::Schema;
 use std::alloc::Global;
 
 /// An attempt that reads. It runs up to the next record that it wants, and loads that record word
-/// by word: `loading` is the read that is not confirmed yet.
+/// by word: `next` is the read of it, and is open once the record's word was seen.
 #[derive(Drop)]
 pub struct Reading {
     pub eval: Eval,
     pub reads: Reads,
-    pub rec: u32,
-    pub loading: Option<Read>,
+    pub next: Read,
+    pub is_open: bool,
 }
 
 impl Reading {
@@ -42,87 +44,123 @@ impl Reading {
         Ok(Reading {
             eval,
             reads,
-            rec: 0,
-            loading: None,
+            next: Read::of(0),
+            is_open: false,
         })
     }
 
-    /// Whether all cells of the wanted record are loaded.
+    /// Whether the next read is open, and all cells of its record are loaded.
     pub fn is_loaded(&self, words: &Words) -> bool
-        requires { self.now.rec < length words.now.records.items }
-        ensures { result ≡ option_map_or (λ o. nat_le (length (found words.now.records.items self.now.rec).cells) (length o.row)) self.now.loading false }
+        requires { self.now.next.rec < length words.now.records.items }
+        ensures { result ≡ (self.now.is_open && nat_le (length (found words.now.records.items self.now.next.rec).cells) (length self.now.next.row)) }
     {
-        match &self.loading {
-            Some(loading) => loading.row.len() >= words.records[self.rec as usize].cells.len(),
-            None => false,
-        }
+        self.is_open && self.next.row.len() >= words.records[self.next.rec as usize].cells.len()
     }
 
     /// Loads the wanted record's word, or is refused where a worker holds it.
     pub fn first_load(&mut self, words: &Words, schema: &Schema, txn: &Txn) -> Moved
         requires reading { IsReading schema.now txn.now self.old }
         requires records { RecordsFit schema.now words.now.records.items }
-        requires first { self.old.loading ≡ None }
+        requires first { self.old.is_open ≡ false }
         ensures act { (s : Setting) (w epoch q : ℕ) → IsAct s w epoch (reading_phase q self.old) (reading_left q self.new result.refused) words.now words.now result }
         ensures reading { IsReading schema.now txn.now self.new }
     {
-        let rec = self.rec;
+        let rec = self.next.rec;
         let record = &words.records[rec as usize];
         let word = record.word();
-        let refused = match record.holder {
-            Some(_) => Some(Refusal::Locked { rec, word }),
-            None => {
-                self.loading = Some(Read {
-                    rec,
-                    seen: record.stamp,
-                    row: Cells::new(),
-                });
-                None
-            }
-        };
-        Moved::by(Act::FirstLoad { rec, word }, refused)
+        let act = Act::FirstLoad { rec, word };
+        if record.holder.is_some() {
+            return Moved::by(act, Some(Refusal::Locked { rec, word }));
+        }
+        self.next.seen = record.stamp;
+        self.next.row = Cells::new();
+        self.is_open = true;
+        Moved::by(act, None)
     }
 
-    /// Loads the next cell of the read being loaded's record.
+    /// Loads the next cell of the open read's record.
     pub fn column_load(&mut self, words: &Words, schema: &Schema, txn: &Txn) -> Moved
         requires reading { IsReading schema.now txn.now self.old }
         requires records { RecordsFit schema.now words.now.records.items }
-        requires more { IfSome self.old.loading (λ o. length o.row < length (found words.now.records.items self.old.rec).cells) }
-        requires some { is_some self.old.loading ≡ true }
+        requires later { self.old.is_open ≡ true }
+        requires more { length self.old.next.row < length (found words.now.records.items self.old.next.rec).cells }
         ensures act { (s : Setting) (w epoch q : ℕ) → IsAct s w epoch (reading_phase q self.old) (reading_left q self.new result.refused) words.now words.now result }
         ensures reading { IsReading schema.now txn.now self.new }
     {
-        let rec = self.rec;
-        let Some(loading) = &mut self.loading else {
-            unreachable!()
-        };
-        let column = loading.row.len() as u32;
-        let value = words.records[rec as usize].cells.get(column);
-        loading.row.push(value);
-        Moved::by(Act::ColumnLoad { rec, column, value }, None)
+        let rec = self.next.rec;
+        let cells = &words.records[rec as usize].cells;
+        let column = self.next.row.len();
+        let value = cells.get(column as u32);
+        if column < cells.len() {
+            self.next.row.push(value);
+        }
+        Moved::by(
+            Act::ColumnLoad {
+                rec,
+                column: column as u32,
+                value,
+            },
+            None,
+        )
     }
 
-    /// Confirms the read being loaded, which counts then and is given to the evaluation; or is refused.
+    /// Confirms the open read, which counts then and is given to the evaluation; or is refused.
     pub fn confirm(self, words: &Words, schema: &Schema, txn: &Txn) -> Result<Reading, Refusal>
         requires reading { IsReading schema.now txn.now self }
         requires records { RecordsFit schema.now words.now.records.items }
-        requires loaded { IfSome self.loading (λ o. length (found words.now.records.items self.rec).cells ≤ length o.row) }
-        requires some { is_some self.loading ≡ true }
-        ensures act { (s : Setting) (w epoch q : ℕ) → IsAct s w epoch (reading_phase q self) (confirmed_phase q result) words.now words.now (record { act = Act.Confirm self.rec (word (found words.now.records.items self.rec)); refused = result_err result; ended = None }) }
+        requires later { self.is_open ≡ true }
+        requires loaded { length (found words.now.records.items self.next.rec).cells ≤ length self.next.row }
+        ensures act { (s : Setting) (w epoch q : ℕ) → IsAct s w epoch (reading_phase q self) (confirmed_phase q result) words.now words.now (record { act = Act.Confirm self.next.rec (word (found words.now.records.items self.next.rec)); refused = result_err result; ended = None }) }
         ensures asking { IfOk result (IsAsking schema.now txn.now) }
     {
-        let mut reading = self;
-        let Some(loading) = reading.loading.take() else {
-            unreachable!()
-        };
-        let record = &words.records[reading.rec as usize];
-        match record.conflict(loading.rec, loading.seen, record.holder.is_some()) {
+        let record = &words.records[self.next.rec as usize];
+        let conflict = record.conflict(self.next.rec, self.next.seen, record.holder.is_some());
+        match conflict {
             Some(refusal) => Err(refusal),
-            None => {
-                reading.eval.give(loading.row.to_row());
-                reading.reads.insert(loading);
-                Ok(reading)
-            }
+            None => Ok(self.counted()),
+        }
+    }
+
+    /// The open read counts.
+    fn counted(self) -> Reading
+        requires awaits { Awaits self.eval }
+        requires room { 0 < self.reads.1 }
+        requires row { 2 ≤ length self.next.row }
+        ensures given { known result.eval ≡ finite.insert (known self.eval) (awaited self.eval) (row_of self.next.row) }
+        ensures eval { (tables : List Table) (txn : List Op) → IsEval tables txn self.eval → IsEval tables txn result.eval }
+        ensures reads { result.reads.0 ≡ with_read self.next self.reads.0 }
+        ensures less { reads_room self.eval ≡ reads_room result.eval + 1 }
+        ensures room { self.reads.1 ≡ result.reads.1 + 1 }
+        ensures closed { result.is_open ≡ false }
+    {
+        let Reading {
+            mut eval,
+            mut reads,
+            next,
+            is_open: _,
+        } = self;
+        eval.give(next.row.to_row());
+        reads.insert(next);
+        Reading {
+            eval,
+            reads,
+            next: Read::of(0),
+            is_open: false,
+        }
+    }
+}
+
+impl Read {
+    /// A read of a record, of which nothing is loaded.
+    pub fn of(rec: u32) -> Read
+        ensures rec { result.rec ≡ rec }
+        ensures seen { result.seen ≡ 0 }
+        ensures row { result.row ≡ [] }
+    {
+        Read {
+            rec,
+            seen: 0,
+            row: Cells::new(),
         }
     }
 }

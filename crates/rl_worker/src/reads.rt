@@ -1,6 +1,6 @@
 //! The reads of an attempt.
 
-ghost use Rattle.std.specs.Prelude.{◌≡◌, ◌+◌, ◌<◌, ◌≤◌, IfOk, IfSome, [], length, position, nat_lt, slice_get, Some};
+ghost use Rattle.std.specs.Prelude.{◌≡◌, ◌+◌, ◌<◌, ◌≤◌, IfOk, IfSome, [], length, nat_lt, position};
 ghost use Rattle.rl_worker.specs.Phases.{with_read};
 
 use crate::cells::Cells;
@@ -52,12 +52,11 @@ impl Reads {
         self.reads.len()
     }
 
-    /// One of them.
-    pub fn get(&self, i: usize) -> &Read
-        requires { i < length self.now.0 }
-        ensures { slice_get self.now.0 i ≡ Some result.now }
+    /// The reads, lent.
+    pub fn as_slice(&self) -> &[Read]
+        ensures { result.now ≡ self.now.0 }
     {
-        &self.reads[i]
+        self.reads.as_slice()
     }
 
     /// One more read joins, at its place by rising record number.
@@ -66,13 +65,13 @@ impl Reads {
         ensures reads { self.new.0 ≡ with_read read self.old.0 }
         ensures room { self.old.1 ≡ self.new.1 + 1 }
     {
-        let at = next_place(&self.reads, read.rec).unwrap_or(self.reads.len());
+        let at = first_after(&self.reads, read.rec).unwrap_or(self.reads.len());
         let _room_was_made = self.reads.insert(at, read);
     }
 }
 
 /// Where the first read of a later record stands, if there is one.
-fn next_place(reads: &[Read], rec: u32) -> Option<usize>
+fn first_after(reads: &[Read], rec: u32) -> Option<usize>
     ensures place { result ≡ position (λ y. nat_lt rec y.rec) reads.now }
     ensures inside { IfSome result (λ at. at < length reads.now) }
 {

@@ -15,6 +15,7 @@ ghost use Rattle.rl_worker.specs.Workers.{IsAsking, StageFits, stage_phase, phas
 use crate::act::{Act, Moved};
 use crate::commit::{Commit, Part};
 use crate::reading::Reading;
+use crate::reads::Read;
 use crate::words::Words;
 use rl_base::memory::Memory;
 use rl_base::stamp::Stamp;
@@ -60,7 +61,7 @@ impl Worker {
         let mut reading = reading;
         match reading.eval.advance(schema, txn) {
             Wants::Read { table, key } => {
-                reading.rec = layout.record(table, key);
+                reading.next = Read::of(layout.record(table, key));
                 Stage::Reading(reading)
             }
             Wants::Ended(_) => Stage::Committing(self.commit(reading)),
@@ -80,8 +81,8 @@ impl Worker {
         let Reading {
             eval,
             reads,
-            rec: _,
-            open: _,
+            next: _,
+            is_open: _,
         } = reading;
         let (reply, writes) = eval.finish();
         Commit {
