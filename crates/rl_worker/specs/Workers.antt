@@ -1,5 +1,5 @@
 -- What a worker stands for among the phases, and what it keeps from step to step.
-use Rattle.std.specs.Prelude.{◌≡◌, ◌⊎◌, ℕ, zero, suc, ◌+◌, ◌*◌, ◌^◌, ◌<◌, ◌≤◌, List, [], ◌∷◌, ◌++◌, length, map, sum, get_or, take, drop, set, Bool, true, false, nat_lt, is_some, if◌then◌else◌, Option, Some, None, Result, Ok, Err, IfSome, IsSomeAnd, option_to_list, All}
+use Rattle.std.specs.Prelude.{◌≡◌, ◌⊎◌, ℕ, zero, suc, ◌+◌, ◌*◌, ◌^◌, ◌<◌, ◌≤◌, List, [], ◌∷◌, ◌++◌, length, map, sum, get_or, take, drop, set, Bool, true, false, nat_lt, ◌==◌, is_some, if◌then◌else◌, Option, Some, None, Result, Ok, Err, IfSome, IsSomeAnd, option_to_list, All}
 use Rattle.std.specs.Option.{option_map, option_map_or}
 use Rattle.rl_base.specs.declared.refusal.Refusal.{Refusal}
 use Rattle.rl_base.specs.declared.refusal.Refusal.TheVariants as refusals
@@ -159,6 +159,29 @@ pub record CommitFits (tables : List Table) (c : Commit) : Type 0 where
   pub seq : c.item.stamp.seq < 2 ^ 40
   pub part : PartFits c c.part
 
+abbrev pub is_storing : Part → Bool
+is_storing (part.Locking held) = false
+is_storing (part.Validating done) = false
+is_storing (part.Storing place stored) = true
+is_storing (part.Refusing place held) = false
+
+-- where all that was read is validated, the attempt is decided
+abbrev pub decided_in : Commit → Part → Commit
+decided_in c (part.Locking held) = c
+decided_in c (part.Validating done) = if done == length c.reads.0 then record c { part = part.Storing 0 0 } else c
+decided_in c (part.Storing place stored) = c
+decided_in c (part.Refusing place held) = c
+
+abbrev pub decided : Commit → Commit
+decided c = decided_in c c.part
+
+-- nothing is left to do
+abbrev pub is_over : Commit → Part → Bool
+is_over c (part.Locking held) = false
+is_over c (part.Validating done) = false
+is_over c (part.Storing place stored) = place == length c.item.writes
+is_over c (part.Refusing place held) = place == held
+
 -- something is left to do in its part
 abbrev pub HasMore : Commit → Part → Type 0
 HasMore c (part.Locking held) = Unit {0}
@@ -184,6 +207,16 @@ pub record WorkerFits (tables : List Table) (lists : List (List (List Op))) (w :
   pub list : w.number ≤ length lists
   pub epoch : w.epoch < 2 ^ 20
   pub stage : is_resting w.stage ≡ false → IsSomeAnd (request lists w.number w.index) (λ txn. StageFits tables txn w w.stage)
+
+-- the same attempt: its reads, and its item but for the stamp's seq
+pub record IsOfAttempt (old new : Commit) : Type 0 where
+  pub reads : new.reads ≡ old.reads
+  pub worker : new.item.worker ≡ old.item.worker
+  pub index : new.item.index ≡ old.item.index
+  pub epoch : new.item.stamp.epoch ≡ old.item.stamp.epoch
+  pub reply : new.item.reply ≡ old.item.reply
+  pub writes : new.item.writes ≡ old.item.writes
+  pub decided : is_storing old.part ≡ true → (new.item ≡ old.item) × (is_storing new.part ≡ true)
 
 -- ---- what an act of the code is ----
 -- the packed stamp that comes next

@@ -5,7 +5,7 @@ ghost use Rattle.rl_value.specs.Tables.{Table, columns_of};
 ghost use Rattle.rl_tables.specs.Numbers.{sizes_of};
 ghost use Rattle.rl_worker.specs.Phases.{Setting};
 ghost use Rattle.rl_worker.specs.Opening.{cells_of};
-ghost use Rattle.rl_worker.specs.Workers.{CommitFits, RecordsFit, RowHas, IsAct, commit_phase};
+ghost use Rattle.rl_worker.specs.Workers.{CommitFits, HasMore, RecordsFit, RowHas, IsAct, IsOfAttempt, commit_phase, decided, is_over, is_storing};
 
 use crate::act::{Act, Moved};
 use crate::reads::Reads;
@@ -56,6 +56,7 @@ impl Commit {
         requires more { held < length self.old.item.writes }
         ensures act { (s : Setting) → IsAct s self.old.item.worker self.old.item.stamp.epoch (commit_phase schema.now self.old) (commit_phase schema.now self.new) words.old words.new result }
         ensures fits { CommitFits schema.now self.new }
+        ensures attempt { IsOfAttempt self.old self.new }
         ensures records { RecordsFit schema.now words.new.records.items }
     {
         let write = &self.item.writes.as_slice()[held];
@@ -81,9 +82,9 @@ impl Commit {
         requires fits { CommitFits schema.now self.old }
         requires part { self.old.part ≡ Part.Locking (length self.old.item.writes) }
         requires next { words.old.next < 2 ^ 40 - 1 }
-        requires records { 0 < length words.old.records.items }
         ensures act { (s : Setting) → IsAct s self.old.item.worker self.old.item.stamp.epoch (commit_phase schema.now self.old) (commit_phase schema.now self.new) words.old words.new result }
         ensures fits { CommitFits schema.now self.new }
+        ensures attempt { IsOfAttempt self.old self.new }
         ensures records { words.new.records ≡ words.old.records }
     {
         let seq = words.next;
@@ -101,6 +102,7 @@ impl Commit {
         requires more { done < length self.old.reads.0 }
         ensures act { (s : Setting) → IsAct s self.old.item.worker self.old.item.stamp.epoch (commit_phase schema.now self.old) (commit_phase schema.now self.new) words.now words.now result }
         ensures fits { CommitFits schema.now self.new }
+        ensures attempt { IsOfAttempt self.old self.new }
     {
         let read = &self.reads.as_slice()[done];
         let rec = read.rec;
@@ -138,6 +140,7 @@ impl Commit {
         requires more { place < length self.old.item.writes }
         ensures act { (s : Setting) → IsAct s self.old.item.worker self.old.item.stamp.epoch (commit_phase schema.now self.old) (commit_phase schema.now self.new) words.old words.new result }
         ensures fits { CommitFits schema.now self.new }
+        ensures attempt { IsOfAttempt self.old self.new }
         ensures records { RecordsFit schema.now words.new.records.items }
     {
         let write = &self.item.writes.as_slice()[place];
@@ -191,6 +194,7 @@ impl Commit {
         requires more { place < held }
         ensures act { (s : Setting) → IsAct s self.old.item.worker self.old.item.stamp.epoch (commit_phase schema.now self.old) (commit_phase schema.now self.new) words.old words.new result }
         ensures fits { CommitFits schema.now self.new }
+        ensures attempt { IsOfAttempt self.old self.new }
         ensures records { RecordsFit schema.now words.new.records.items }
     {
         let write = &self.item.writes.as_slice()[place];
@@ -203,6 +207,61 @@ impl Commit {
             held,
         };
         Moved::by(Act::Close { rec, word }, None)
+    }
+
+    /// Makes the next act.
+    pub fn act(&mut self, words: &mut Words, layout: &Layout, schema: &Schema) -> Moved
+        requires layout { layout.now ≡ sizes_of schema.now }
+        requires fits { CommitFits schema.now self.old }
+        requires more { HasMore self.old self.old.part }
+        requires records { RecordsFit schema.now words.old.records.items }
+        requires next { words.old.next < 2 ^ 40 - 1 }
+        ensures act { (s : Setting) → IsAct s self.old.item.worker self.old.item.stamp.epoch (commit_phase schema.now self.old) (commit_phase schema.now self.new) words.old words.new result }
+        ensures fits { CommitFits schema.now self.new }
+        ensures attempt { IsOfAttempt self.old self.new }
+        ensures records { RecordsFit schema.now words.new.records.items }
+    {
+        match self.part {
+            Part::Locking { held } if held < self.item.writes.len() => {
+                self.lock(words, layout, schema, held)
+            }
+            Part::Locking { .. } => self.draw(words, schema),
+            Part::Validating { done } => self.validate(words, schema, done),
+            Part::Storing { place, stored } => self.store(words, layout, schema, place, stored),
+            Part::Refusing { place, held } => self.release(words, layout, schema, place, held),
+        }
+    }
+
+    /// Decides the attempt, where it has validated all that it read.
+    pub fn decide(&mut self)
+        ensures { self.new ≡ decided self.old }
+    {
+        if let Part::Validating { done } = self.part {
+            if done == self.reads.len() {
+                self.part = Part::Storing {
+                    place: 0,
+                    stored: 0,
+                };
+            }
+        }
+    }
+
+    /// Whether nothing is left to do.
+    pub fn is_over(&self) -> bool
+        ensures { result ≡ is_over self.now self.now.part }
+    {
+        match self.part {
+            Part::Storing { place, .. } => place == self.item.writes.len(),
+            Part::Refusing { place, held } => place == held,
+            _ => false,
+        }
+    }
+
+    /// Whether it is decided.
+    pub fn is_decided(&self) -> bool
+        ensures { result ≡ is_storing self.now.part }
+    {
+        matches!(self.part, Part::Storing { .. })
     }
 }
 
