@@ -1,5 +1,5 @@
 -- What a worker stands for among the phases, and what it keeps from step to step.
-use Rattle.std.specs.Prelude.{◌≡◌, ◌⊎◌, ℕ, zero, suc, ◌+◌, ◌*◌, ◌^◌, ◌<◌, ◌≤◌, List, [], ◌∷◌, ◌++◌, length, map, sum, get_or, take, drop, set, Bool, true, false, nat_lt, ◌==◌, is_some, if◌then◌else◌, Option, Some, None, Result, Ok, Err, IfSome, IsSomeAnd, option_to_list, All}
+use Rattle.std.specs.Prelude.{◌≡◌, ◌⊎◌, ℕ, zero, suc, ◌+◌, ◌*◌, ◌^◌, ◌<◌, ◌≤◌, List, [], ◌∷◌, ◌++◌, length, map, sum, get_or, take, drop, set, Bool, true, false, nat_lt, nat_le, ◌==◌, ◌&&◌, is_some, if◌then◌else◌, Option, Some, None, Result, Ok, Err, IfSome, IsSomeAnd, option_to_list, All}
 use Rattle.std.specs.Option.{option_map, option_map_or}
 use Rattle.rl_base.specs.declared.refusal.Refusal.{Refusal}
 use Rattle.rl_base.specs.declared.refusal.Refusal.TheVariants as refusals
@@ -21,11 +21,11 @@ use Rattle.rl_worker.specs.declared.commit.Part.TheVariants as part
 use Rattle.rl_worker.specs.declared.worker.Stage.{Stage}
 use Rattle.rl_worker.specs.declared.worker.Stage.TheVariants as stage
 use Rattle.rl_worker.specs.declared.worker.Worker.{Worker}
-use Rattle.rl_worker.specs.Phases.{Read, Install, Rec, Phase, Rest, Asking, Wanting, Loading, Locking, Validating, Storing, Refusing, Setting}
+use Rattle.rl_worker.specs.Phases.{Read, Install, Rec, Phase, Rest, Asking, Wanting, Loading, Locking, Validating, Storing, Refusing, Setting, asked}
 use Rattle.rl_worker.specs.Items.{Item, place}
 use Rattle.rl_worker.specs.Acts as acts
 use Rattle.rl_worker.specs.Acts.{Cause, Locked, Changed, Event, Quiet, Drew, Won, Lost, LostDrawn, Core, no_rec, target, moved, next_after}
-use Rattle.rl_worker.specs.Opening.{install_of, overlay_of, request}
+use Rattle.rl_worker.specs.Opening.{install_of, overlay_of, outcome, request}
 
 -- the record of a number, among some
 abbrev pub found : List Rec → ℕ → Rec
@@ -201,6 +201,42 @@ is_resting stage.Resting = true
 is_resting (stage.Reading r) = false
 is_resting (stage.Committing c) = false
 
+abbrev pub is_reading : Stage → Bool
+is_reading stage.Resting = false
+is_reading (stage.Reading r) = true
+is_reading (stage.Committing c) = false
+
+-- all cells of the wanted record are loaded
+abbrev pub is_loaded : Stage → Words → Bool
+is_loaded stage.Resting words = false
+is_loaded (stage.Reading r) words = r.is_open && nat_le (length (found words.records.items r.next.rec).cells) (length r.next.row)
+is_loaded (stage.Committing c) words = false
+
+abbrev pub number_of : Worker → ℕ
+number_of w = w.number
+
+abbrev pub epoch_of : Worker → ℕ
+epoch_of w = w.epoch
+
+-- the index of the request that it is at
+abbrev pub next_of : Worker → ℕ
+next_of w = w.index
+
+-- the decided item of an attempt that has not ended
+abbrev pub decided_at : Stage → Option txn.Item
+decided_at stage.Resting = None
+decided_at (stage.Reading r) = None
+decided_at (stage.Committing c) = if is_storing c.part then Some c.item else None
+
+abbrev pub decided_item : Worker → Option txn.Item
+decided_item w = decided_at w.stage
+
+-- the same worker at the same request
+pub record IsAttemptOf (old new : Worker) : Type 0 where
+  pub number : new.number ≡ old.number
+  pub epoch : new.epoch ≡ old.epoch
+  pub index : new.index ≡ old.index
+
 -- a worker of the lists: where it is in an attempt, its request is there
 pub record WorkerFits (tables : List Table) (lists : List (List (List Op))) (w : Worker) : Type 0 where
   pub first : 1 ≤ w.number
@@ -235,3 +271,47 @@ pub record IsAct (s : Setting) (w epoch : ℕ) (p p' : Phase) (words words' : Wo
   pub refused : told.refused ≡ refusal_of (made s w epoch p words).event
   pub act : told.act ≡ act_of words.next p (found words.records.items (target p))
   pub ended : told.ended ≡ None
+
+-- what the transaction asks for after a read that counts
+abbrev pub ran_on : List Table → List Op → ℕ → Result Reading Refusal → Phase
+ran_on tables txn q (Ok r) = asked q r.reads.0 (outcome tables txn r.reads.0)
+ran_on tables txn q (Err refusal) = Rest q
+
+-- the code confirmed a read, and ran on where it counts
+pub record Confirms (tables : List Table) (txn : List Op) (old new : Worker) (words : Words) (told : code.Moved) : Type 0 where
+  pub left : Result Reading Refusal
+  pub act : (s : Setting) (w epoch : ℕ) → IsAct s w epoch (phase_of tables old) (confirmed_phase old.index left) words words told
+  pub ran : phase_of tables new ≡ ran_on tables txn old.index left
+
+-- a worker that commits
+abbrev pub IsCommitting : List Table → Worker → Stage → Type 0
+IsCommitting tables w stage.Resting = ⊥
+IsCommitting tables w (stage.Reading r) = ⊥
+IsCommitting tables w (stage.Committing c) =
+    CommitFits tables c × (c.item.worker ≡ w.number) × (c.item.index ≡ w.index) × (c.item.stamp.epoch ≡ w.epoch) × HasMore c c.part
+
+-- an attempt is over: the next request comes where it was decided, else the same again
+abbrev pub ended : Worker → Commit → Worker
+ended w c = record w { stage = stage.Resting; index = if is_storing c.part then w.index + 1 else w.index }
+
+abbrev pub finished : Worker → Commit → Worker
+finished w c = if is_over c c.part then ended w c else record w { stage = stage.Committing c }
+
+-- the code made an act of a commit, and ended the attempt where nothing was left to do
+pub record Commits (tables : List Table) (old new : Worker) (words words' : Words) (told : code.Moved) : Type 0 where
+  pub was : Commit
+  pub to : Commit
+  pub old_is : old.stage ≡ stage.Committing was
+  pub act : (s : Setting) → IsAct s old.number old.epoch (phase_of tables old) (commit_phase tables to) words words' (record told { ended = None })
+  pub attempt : IsOfAttempt was to
+  pub fits : CommitFits tables to
+  pub new_is : new ≡ finished old (decided to)
+  pub ended : told.ended ≡ (if is_over (decided to) (decided to).part then decided_at (stage.Committing (decided to)) else None)
+
+-- ---- what a worker and the records stand for in the core ----
+-- the core has these records, this worker's phase, and the next stamp
+pub record Stands (tables : List Table) (w : Worker) (words : Words) (core : Core) : Type 0 where
+  pub recs : core.recs ≡ words.records.items
+  pub next : core.next ≡ stamp_next w.epoch words
+  pub there : w.number < length core.workers
+  pub phase : acts.phase_of core w.number ≡ phase_of tables w

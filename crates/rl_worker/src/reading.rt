@@ -57,8 +57,23 @@ impl Reading {
         self.is_open && self.next.row.len() >= words.records[self.next.rec as usize].cells.len()
     }
 
+    /// Loads the wanted record's word, or its next cell where the read of it is open.
+    pub fn load(&mut self, words: &Words, schema: &Schema, txn: &Txn) -> Moved
+        requires reading { IsReading schema.now txn.now self.old }
+        requires records { RecordsFit schema.now words.now.records.items }
+        requires more { (self.old.is_open && nat_le (length (found words.now.records.items self.old.next.rec).cells) (length self.old.next.row)) ≡ false }
+        ensures act { (s : Setting) (w epoch q : ℕ) → IsAct s w epoch (reading_phase q self.old) (reading_left q self.new result.refused) words.now words.now result }
+        ensures reading { IsReading schema.now txn.now self.new }
+    {
+        if self.is_open {
+            self.column_load(words, schema, txn)
+        } else {
+            self.first_load(words, schema, txn)
+        }
+    }
+
     /// Loads the wanted record's word, or is refused where a worker holds it.
-    pub fn first_load(&mut self, words: &Words, schema: &Schema, txn: &Txn) -> Moved
+    fn first_load(&mut self, words: &Words, schema: &Schema, txn: &Txn) -> Moved
         requires reading { IsReading schema.now txn.now self.old }
         requires records { RecordsFit schema.now words.now.records.items }
         requires first { self.old.is_open ≡ false }
@@ -79,7 +94,7 @@ impl Reading {
     }
 
     /// Loads the next cell of the open read's record.
-    pub fn column_load(&mut self, words: &Words, schema: &Schema, txn: &Txn) -> Moved
+    fn column_load(&mut self, words: &Words, schema: &Schema, txn: &Txn) -> Moved
         requires reading { IsReading schema.now txn.now self.old }
         requires records { RecordsFit schema.now words.now.records.items }
         requires later { self.old.is_open ≡ true }

@@ -1,6 +1,7 @@
 //! One worker of an open leader.
 
-ghost use Rattle.std.specs.Prelude.{◌≡◌, ℕ, List, ◌+◌, ◌-◌, ◌*◌, ◌^◌, ◌<◌, ◌≤◌, IfOk, OnErr, IfSome, IfNone, Some, None, true, false, length};
+ghost use Rattle.std.specs.Prelude.{◌≡◌, ℕ, List, [], ◌+◌, ◌-◌, ◌*◌, ◌^◌, ◌<◌, ◌≤◌, IfOk, OnOk, OnErr, IfSome, IfNone, Some, None, true, false, length};
+ghost use Rattle.std.specs.Option.{option_copied};
 ghost use Rattle.rl_value.specs.Rows.{Rows};
 ghost use Rattle.rl_tables.specs.Numbers.{sizes_of};
 ghost use Rattle.rl_value.specs.Tables.{Table};
@@ -8,9 +9,11 @@ ghost use Rattle.rl_txn.specs.Fits.{TxnFits, ListsFit};
 ghost use Rattle.rl_txn.specs.Run.{run};
 ghost use Rattle.rl_txn.specs.Eval.{HasEnded, IsEval, HasRows, known};
 ghost use Rattle.rl_txn.specs.declared.op.Op.{Op};
-ghost use Rattle.rl_worker.specs.Phases.{asked, Rest};
+ghost use Rattle.rl_worker.specs.declared.commit.Commit.{Commit};
+ghost use Rattle.rl_worker.specs.Phases.{asked, Rest, Setting};
+ghost use Rattle.rl_worker.specs.Acts.{Core, resting, idle};
 ghost use Rattle.rl_worker.specs.Opening.{outcome, request};
-ghost use Rattle.rl_worker.specs.Workers.{IsAsking, StageFits, stage_phase, phase_of, WorkerFits, RecordsFit};
+ghost use Rattle.rl_worker.specs.Workers.{IsAsking, StageFits, stage_phase, phase_of, WorkerFits, RecordsFit, IsAct, IsAttemptOf, Stands, number_of, epoch_of, next_of, decided_item, decided_at, is_reading, is_loaded, Confirms, IsCommitting, Commits, ended};
 
 use crate::act::{Act, Moved};
 use crate::commit::{Commit, Part};
@@ -49,6 +52,71 @@ pub struct Worker {
 }
 
 impl Worker {
+    /// At rest before a request of its list.
+    pub fn new(worker: u32, epoch: u32, next: u32) -> Worker
+        ensures number { number_of result ≡ worker }
+        ensures epoch { epoch_of result ≡ epoch }
+        ensures rests { (tables : List Table) → phase_of tables result ≡ Rest next }
+        ensures fits { (tables : List Table) (lists : List (List (List Op))) → 1 ≤ worker → worker ≤ length lists → epoch < 2 ^ 20 → WorkerFits tables lists result }
+    {
+        Worker {
+            number: worker,
+            epoch,
+            index: next,
+            stage: Stage::Resting,
+        }
+    }
+
+    /// Whether it is at rest.
+    pub fn at_rest(&self) -> bool
+        ensures { (tables : List Table) → result ≡ resting (phase_of tables self.now) }
+    {
+        matches!(self.stage, Stage::Resting)
+    }
+
+    /// The index of the attempt's request, or at rest of the request to come.
+    pub fn next(&self) -> u32
+        ensures { result ≡ next_of self.now }
+    {
+        self.index
+    }
+
+    /// The decided item of an attempt that has not ended yet, if there is one.
+    pub fn decided(&self) -> Option<&Item>
+        ensures { option_copied result ≡ decided_item self.now }
+    {
+        match &self.stage {
+            Stage::Committing(commit) if commit.is_decided() => Some(&commit.item),
+            _ => None,
+        }
+    }
+
+    /// Draws a seq for a mark. It rests before and after.
+    pub fn idle(&mut self, words: &mut Words) -> u64
+        requires rests { (tables : List Table) → resting (phase_of tables self.old) ≡ true }
+        requires next { words.old.next < 2 ^ 40 - 1 }
+        ensures drawn { result ≡ words.old.next }
+        ensures same { self.new ≡ self.old }
+        ensures idle { (tables : List Table) (core : Core) → Stands tables self.old words.old core → Stands tables self.new words.new (idle core (number_of self.old)) }
+    {
+        let seq = words.next;
+        words.next += 1;
+        seq
+    }
+
+    /// The request that it is at, if there is one.
+    fn request<'a>(&self, lists: &'a Lists) -> Option<&'a Txn>
+        requires first { 1 ≤ self.now.number }
+        requires list { self.now.number ≤ length lists.now }
+        ensures { option_copied result ≡ request lists.now self.now.number self.now.index }
+    {
+        if self.index == 0 {
+            return None;
+        }
+        let list = lists.get(self.number as usize - 1);
+        list.as_slice().get(self.index as usize - 1)
+    }
+
     /// Runs the transaction on, up to the next record that it wants or to its end.
     fn run_on(&self, reading: Reading, layout: &Layout, schema: &Schema, txn: &Txn) -> Stage
         requires layout { layout.now ≡ sizes_of schema.now }
@@ -99,5 +167,113 @@ impl Worker {
             },
             part: Part::Locking { held: 0 },
         }
+    }
+
+    /// Begins an attempt of a request, up to the first record that it wants or to its end. Room for
+    /// all of the attempt is taken here; after `Memory` the worker is unchanged.
+    fn begin(
+        &mut self,
+        alloc: Global,
+        layout: &Layout,
+        schema: &Schema,
+        txn: &Txn,
+    ) -> Result<(), Memory>
+        requires layout { layout.now ≡ sizes_of schema.now }
+        requires txn { TxnFits schema.now txn.now }
+        requires rests { self.old.stage ≡ Stage.Resting }
+        requires epoch { self.old.epoch < 2 ^ 20 }
+        ensures begun { OnOk result (IsAttemptOf self.old self.new) }
+        ensures phase { OnOk result (phase_of schema.now self.new ≡ asked self.old.index [] (outcome schema.now txn.now [])) }
+        ensures fits { OnOk result (StageFits schema.now txn.now self.new self.new.stage) }
+        ensures unchanged { OnErr result (self.new ≡ self.old) }
+    {
+        let reading = Reading::start(alloc, schema, txn)?;
+        self.stage = self.run_on(reading, layout, schema, txn);
+        Ok(())
+    }
+
+    /// Loads, where the attempt reads.
+    fn load(&mut self, words: &Words, schema: &Schema, txn: &Txn) -> Moved
+        requires fits { StageFits schema.now txn.now self.old self.old.stage }
+        requires records { RecordsFit schema.now words.now.records.items }
+        requires reads { is_reading self.old.stage ≡ true }
+        requires more { is_loaded self.old.stage words.now ≡ false }
+        ensures act { (s : Setting) (w epoch : ℕ) → IsAct s w epoch (phase_of schema.now self.old) (phase_of schema.now self.new) words.now words.now result }
+        ensures attempt { IsAttemptOf self.old self.new }
+        ensures fits { StageFits schema.now txn.now self.new self.new.stage }
+        ensures undecided { decided_item self.new ≡ None }
+    {
+        let Stage::Reading(reading) = &mut self.stage else {
+            unreachable!()
+        };
+        let moved = reading.load(words, schema, txn);
+        if moved.refused.is_some() {
+            self.stage = Stage::Resting;
+        }
+        moved
+    }
+
+    /// Confirms the read of the wanted record, whose cells are all loaded, and runs on.
+    fn confirm(&mut self, words: &Words, layout: &Layout, schema: &Schema, txn: &Txn) -> Moved
+        requires layout { layout.now ≡ sizes_of schema.now }
+        requires txn { TxnFits schema.now txn.now }
+        requires fits { StageFits schema.now txn.now self.old self.old.stage }
+        requires epoch { self.old.epoch < 2 ^ 20 }
+        requires records { RecordsFit schema.now words.now.records.items }
+        requires loaded { is_loaded self.old.stage words.now ≡ true }
+        ensures act { Confirms schema.now txn.now self.old self.new words.now result }
+        ensures attempt { IsAttemptOf self.old self.new }
+        ensures fits { StageFits schema.now txn.now self.new self.new.stage }
+        ensures undecided { decided_item self.new ≡ None }
+    {
+        let Stage::Reading(reading) = mem::replace(&mut self.stage, Stage::Resting) else {
+            unreachable!()
+        };
+        let rec = reading.next.rec;
+        let word = words.records[rec as usize].word();
+        let refused = match reading.confirm(words, schema, txn) {
+            Ok(reading) => {
+                self.stage = self.run_on(reading, layout, schema, txn);
+                None
+            }
+            Err(refusal) => Some(refusal),
+        };
+        Moved::by(Act::Confirm { rec, word }, refused)
+    }
+
+    /// Makes the next act of a commit, and ends the attempt where nothing is left to do.
+    fn commit_on(&mut self, words: &mut Words, layout: &Layout, schema: &Schema) -> Moved
+        requires layout { layout.now ≡ sizes_of schema.now }
+        requires records { RecordsFit schema.now words.old.records.items }
+        requires next { words.old.next < 2 ^ 40 - 1 }
+        requires commits { IsCommitting schema.now self.old self.old.stage }
+        requires index { self.old.index ≤ 8192 }
+        ensures act { Commits schema.now self.old self.new words.old words.new result }
+        ensures records { RecordsFit schema.now words.new.records.items }
+    {
+        let Stage::Committing(commit) = &mut self.stage else {
+            unreachable!()
+        };
+        let mut moved = commit.act(words, layout, schema);
+        commit.decide();
+        if commit.is_over() {
+            moved.ended = self.end();
+        }
+        moved
+    }
+
+    /// Ends the attempt, and answers its item if it was decided.
+    fn end(&mut self) -> Option<Item>
+        requires { self.old.index ≤ 8192 }
+        ensures { (c : Commit) → self.old.stage ≡ Stage.Committing c → (self.new ≡ ended self.old c) × (result ≡ decided_at self.old.stage) }
+    {
+        let Stage::Committing(commit) = mem::replace(&mut self.stage, Stage::Resting) else {
+            return None;
+        };
+        if !commit.is_decided() {
+            return None;
+        }
+        self.index += 1;
+        Some(commit.item)
     }
 }
