@@ -18,6 +18,7 @@ pub mod Scripts
 pub mod Serial
 pub mod Settings
 pub mod Settled
+pub mod Stages
 pub mod Stamps
 pub mod States
 pub mod Whole

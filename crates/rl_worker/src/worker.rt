@@ -2,6 +2,7 @@
 
 ghost use Rattle.std.specs.Prelude.{◌≡◌, ℕ, List, [], ◌+◌, ◌-◌, ◌*◌, ◌^◌, ◌<◌, ◌≤◌, IfOk, OnOk, OnErr, IfSome, IfNone, Some, None, true, false, length};
 ghost use Rattle.std.specs.Option.{option_copied};
+ghost use Rattle.std.specs.Result.{result_err};
 ghost use Rattle.rl_value.specs.Rows.{Rows};
 ghost use Rattle.rl_tables.specs.Numbers.{sizes_of};
 ghost use Rattle.rl_value.specs.Tables.{Table};
@@ -13,7 +14,7 @@ ghost use Rattle.rl_worker.specs.declared.commit.Commit.{Commit};
 ghost use Rattle.rl_worker.specs.Phases.{asked, Rest, Setting};
 ghost use Rattle.rl_worker.specs.Acts.{Core, resting, idle};
 ghost use Rattle.rl_worker.specs.Opening.{outcome, request};
-ghost use Rattle.rl_worker.specs.Workers.{IsAsking, StageFits, stage_phase, phase_of, WorkerFits, RecordsFit, IsAct, IsAttemptOf, Stands, number_of, epoch_of, next_of, decided_item, decided_at, is_reading, is_loaded, Confirms, IsCommitting, Commits, ended};
+ghost use Rattle.rl_worker.specs.Workers.{IsAsking, StageFits, stage_phase, phase_of, WorkerFits, RecordsFit, IsAct, IsAttemptOf, Stands, number_of, epoch_of, next_of, decided_item, decided_at, is_reading, is_loaded, Confirms, ran_on, IsCommitting, Commits, ended};
 
 use crate::act::{Act, Moved};
 use crate::commit::{Commit, Part};
@@ -21,6 +22,7 @@ use crate::reading::Reading;
 use crate::reads::Read;
 use crate::words::Words;
 use rl_base::memory::Memory;
+use rl_base::refusal::Refusal;
 use rl_base::stamp::Stamp;
 use rl_tables::layout::Layout;
 use rl_txn::eval::Wants;
@@ -125,6 +127,7 @@ impl Worker {
         requires epoch { self.now.epoch < 2 ^ 20 }
         ensures phase { stage_phase schema.now self.now.index result ≡ asked self.now.index reading.reads.0 (outcome schema.now txn.now reading.reads.0) }
         ensures fits { StageFits schema.now txn.now self.now result }
+        ensures undecided { decided_at result ≡ None }
     {
         let mut reading = reading;
         match reading.eval.advance(schema, txn) {
@@ -231,14 +234,33 @@ impl Worker {
         };
         let rec = reading.next.rec;
         let word = words.records[rec as usize].word();
-        let refused = match reading.confirm(words, schema, txn) {
-            Ok(reading) => {
-                self.stage = self.run_on(reading, layout, schema, txn);
-                None
-            }
-            Err(refusal) => Some(refusal),
-        };
+        let (stage, refused) =
+            self.after_confirm(reading.confirm(words, schema, txn), layout, schema, txn);
+        self.stage = stage;
         Moved::by(Act::Confirm { rec, word }, refused)
+    }
+
+    /// The stage after a read was confirmed or refused, and the refusal.
+    fn after_confirm(
+        &self,
+        confirmed: Result<Reading, Refusal>,
+        layout: &Layout,
+        schema: &Schema,
+        txn: &Txn,
+    ) -> (Stage, Option<Refusal>)
+        requires layout { layout.now ≡ sizes_of schema.now }
+        requires txn { TxnFits schema.now txn.now }
+        requires asking { IfOk confirmed (IsAsking schema.now txn.now) }
+        requires epoch { self.now.epoch < 2 ^ 20 }
+        ensures phase { stage_phase schema.now self.now.index result.0 ≡ ran_on schema.now txn.now self.now.index confirmed }
+        ensures refused { result.1 ≡ result_err confirmed }
+        ensures fits { StageFits schema.now txn.now self.now result.0 }
+        ensures undecided { decided_at result.0 ≡ None }
+    {
+        match confirmed {
+            Ok(reading) => (self.run_on(reading, layout, schema, txn), None),
+            Err(refusal) => (Stage::Resting, Some(refusal)),
+        }
     }
 
     /// Makes the next act of a commit, and ends the attempt where nothing is left to do.
