@@ -1,5 +1,5 @@
 -- What a worker comes to by an act.
-use Rattle.std.proofs.Common.{◌≡◌, ◌×◌, ℕ, ◌+◌, List, Bool, true, false, is_some, if◌then◌else◌, Option, Some, None, refl, sym, ap, ◌∙◌, subst}
+use Rattle.std.proofs.Common.{◌≡◌, ℕ, ◌+◌, List, Bool, true, false, is_some, if◌then◌else◌, Option, Some, None, refl, sym, ap, ◌∙◌, subst}
 use mathlib.Core.Bool.{false≢true}
 use Rattle.rl_base.specs.declared.refusal.Refusal.{Refusal}
 use Rattle.rl_value.specs.Tables.{Table}

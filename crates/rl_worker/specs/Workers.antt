@@ -308,6 +308,20 @@ pub record Commits (tables : List Table) (old new : Worker) (words words' : Word
   pub new_is : new ≡ finished old (decided to)
   pub ended : told.ended ≡ (if is_over (decided to) (decided to).part then decided_at (stage.Committing (decided to)) else None)
 
+-- the code loaded a word or a cell
+pub record Loads (tables : List Table) (txn : List Op) (old new : Worker) (words : Words) (told : code.Moved) : Type 0 where
+  pub act : (s : Setting) (w epoch : ℕ) → IsAct s w epoch (phase_of tables old) (phase_of tables new) words words told
+  pub reads : is_reading old.stage ≡ true
+  pub attempt : IsAttemptOf old new
+  pub fits : StageFits tables txn new new.stage
+  pub undecided : decided_item new ≡ None
+
+-- the code made one act of an attempt, and what follows it
+pub data IsActed (tables : List Table) (txn : List Op) (old new : Worker) (words words' : Words) (told : code.Moved) : Type 0 where
+  Loaded : words' ≡ words → Loads tables txn old new words told → IsActed tables txn old new words words' told
+  Confirmed : words' ≡ words → is_reading old.stage ≡ true → Confirms tables txn old new words told → IsActed tables txn old new words words' told
+  Committed : Commits tables old new words words' told → IsActed tables txn old new words words' told
+
 -- ---- what a worker and the records stand for in the core ----
 -- the core has these records, this worker's phase, and the next stamp
 pub record Stands (tables : List Table) (w : Worker) (words : Words) (core : Core) : Type 0 where
@@ -315,3 +329,38 @@ pub record Stands (tables : List Table) (w : Worker) (words : Words) (core : Cor
   pub next : core.next ≡ stamp_next w.epoch words
   pub there : w.number < length core.workers
   pub phase : acts.phase_of core w.number ≡ phase_of tables w
+
+-- the item that a step decided, if it decided one
+abbrev pub either : Option txn.Item → Option txn.Item → Option txn.Item
+either None second = second
+either (Some x) second = Some x
+
+abbrev pub newly_decided : Worker → Worker → code.Moved → Option txn.Item
+newly_decided old new told = if is_some (decided_item old) then None else either told.ended (decided_item new)
+
+-- an item as the core has it
+abbrev pub core_item : List Table → txn.Item → Item
+core_item tables x = record { stamp = packed x.stamp; worker = x.worker; index = x.index; answer = (x.reply, x.writes); writes = map (install_of tables) x.writes }
+
+abbrev pub joined : Option Item → List Item → List Item
+joined None xs = xs
+joined (Some x) xs = place x xs
+
+-- a step of the code is a step of the core: what stands after it, and what it tells
+pub record Steps (tables : List Table) (old new : Worker) (words : Words) (told : code.Moved) (core core' : Core) : Type 0 where
+  pub stands : Stands tables new words core'
+  pub number : number_of new ≡ number_of old
+  pub epoch : epoch_of new ≡ epoch_of old
+  pub others : core'.workers ≡ set core.workers (number_of old) (phase_of tables new)
+  pub decided : core'.decided ≡ joined (option_map (core_item tables) (newly_decided old new told)) core.decided
+  pub kept : IfSome (decided_item old) (λ x. either told.ended (decided_item new) ≡ Some x)
+  pub refusal : Option acts.Refusal
+  pub refusals : core'.refusals ≡ option_to_list refusal ++ core.refusals
+  pub refused : told.refused ≡ option_map refused refusal
+  pub of : IfSome refusal (λ f. (f.worker ≡ number_of old) × (f.index ≡ next_of old))
+
+-- the act that a step of a worker makes: none at rest with no request left
+abbrev pub act_made : Setting → ℕ → Core → ℕ → Act
+act_made s n core w =
+    if acts.is_done s w (acts.phase_of core w) then act.Rest
+    else act_of n (acts.phase_of (acts.begin s core w) w) (found core.recs (target (acts.phase_of (acts.begin s core w) w)))

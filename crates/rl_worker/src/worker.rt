@@ -1,6 +1,6 @@
 //! One worker of an open leader.
 
-ghost use Rattle.std.specs.Prelude.{◌≡◌, ℕ, List, [], ◌+◌, ◌-◌, ◌*◌, ◌^◌, ◌<◌, ◌≤◌, IfOk, OnOk, OnErr, IfSome, IfNone, Some, None, true, false, length};
+ghost use Rattle.std.specs.Prelude.{◌≡◌, ℕ, List, [], ◌+◌, ◌-◌, ◌*◌, ◌^◌, ◌<◌, ◌≤◌, IfOk, OnOk, OnErr, IfSome, IfNone, IsErr, Some, None, true, false, length};
 ghost use Rattle.std.specs.Option.{option_copied};
 ghost use Rattle.std.specs.Result.{result_err};
 ghost use Rattle.rl_value.specs.Rows.{Rows};
@@ -12,9 +12,9 @@ ghost use Rattle.rl_txn.specs.Eval.{HasEnded, IsEval, HasRows, known};
 ghost use Rattle.rl_txn.specs.declared.op.Op.{Op};
 ghost use Rattle.rl_worker.specs.declared.commit.Commit.{Commit};
 ghost use Rattle.rl_worker.specs.Phases.{asked, Rest, Setting};
-ghost use Rattle.rl_worker.specs.Acts.{Core, resting, idle};
-ghost use Rattle.rl_worker.specs.Opening.{outcome, request};
-ghost use Rattle.rl_worker.specs.Workers.{IsAsking, StageFits, stage_phase, phase_of, WorkerFits, RecordsFit, IsAct, IsAttemptOf, Stands, number_of, epoch_of, next_of, decided_item, decided_at, is_reading, is_loaded, Confirms, ran_on, IsCommitting, Commits, ended};
+ghost use Rattle.rl_worker.specs.Acts.{Core, resting, idle, step};
+ghost use Rattle.rl_worker.specs.Opening.{outcome, request, setting_of};
+ghost use Rattle.rl_worker.specs.Workers.{IsAsking, StageFits, stage_phase, phase_of, WorkerFits, RecordsFit, IsAct, IsAttemptOf, Stands, number_of, epoch_of, next_of, decided_item, decided_at, is_reading, is_loaded, Confirms, ran_on, IsCommitting, Commits, ended, is_resting, IsActed, Steps, act_made};
 
 use crate::act::{Act, Moved};
 use crate::commit::{Commit, Part};
@@ -297,5 +297,64 @@ impl Worker {
         }
         self.index += 1;
         Some(commit.item)
+    }
+
+    /// Makes the next act of an attempt of a request, and what follows it.
+    fn act(&mut self, words: &mut Words, layout: &Layout, schema: &Schema, txn: &Txn) -> Moved
+        requires layout { layout.now ≡ sizes_of schema.now }
+        requires txn { TxnFits schema.now txn.now }
+        requires fits { StageFits schema.now txn.now self.old self.old.stage }
+        requires attempt { is_resting self.old.stage ≡ false }
+        requires epoch { self.old.epoch < 2 ^ 20 }
+        requires index { self.old.index ≤ 8192 }
+        requires records { RecordsFit schema.now words.old.records.items }
+        requires next { words.old.next < 2 ^ 40 - 1 }
+        ensures acted { IsActed schema.now txn.now self.old self.new words.old words.new result }
+        ensures records { RecordsFit schema.now words.new.records.items }
+    {
+        match &self.stage {
+            Stage::Reading(reading) => {
+                if reading.is_loaded(words) {
+                    self.confirm(words, layout, schema, txn)
+                } else {
+                    self.load(words, schema, txn)
+                }
+            }
+            Stage::Committing(_) => self.commit_on(words, layout, schema),
+            Stage::Resting => unreachable!(),
+        }
+    }
+
+    /// Makes one act. A step at rest begins the next request first, and does nothing where there is none.
+    ///
+    /// It takes memory at rest alone; after `Memory` the worker and the records are unchanged.
+    pub fn step(
+        &mut self,
+        alloc: Global,
+        words: &mut Words,
+        layout: &Layout,
+        schema: &Schema,
+        lists: &Lists,
+    ) -> Result<Moved, Memory>
+        requires layout { layout.now ≡ sizes_of schema.now }
+        requires lists { ListsFit schema.now lists.now }
+        requires fits { WorkerFits schema.now lists.now self.old }
+        requires records { RecordsFit schema.now words.old.records.items }
+        requires next { words.old.next < 2 ^ 40 - 1 }
+        ensures step { (rows : Rows) (stamps : List ℕ) (core : Core) → Stands schema.now self.old words.old core → IfOk result (λ told. Steps schema.now self.old self.new words.new told core (step (setting_of schema.now lists.now rows stamps (epoch_of self.old)) core (number_of self.old))) }
+        ensures act { (rows : Rows) (stamps : List ℕ) (core : Core) → Stands schema.now self.old words.old core → IfOk result (λ told. told.act ≡ act_made (setting_of schema.now lists.now rows stamps (epoch_of self.old)) words.old.next core (number_of self.old)) }
+        ensures fits { IfOk result (λ _. WorkerFits schema.now lists.now self.new) }
+        ensures records { IfOk result (λ _. RecordsFit schema.now words.new.records.items) }
+        ensures at_rest { IsErr result → resting (phase_of schema.now self.old) ≡ true }
+        ensures unchanged { IsErr result → self.new ≡ self.old }
+        ensures unchanged_words { IsErr result → words.new ≡ words.old }
+    {
+        let Some(txn) = self.request(lists) else {
+            return Ok(Moved::by(Act::Rest, None));
+        };
+        if self.at_rest() {
+            self.begin(alloc, layout, schema, txn)?;
+        }
+        Ok(self.act(words, layout, schema, txn))
     }
 }
