@@ -1,6 +1,7 @@
 pub mod Acts
 pub mod Basics
 pub mod Commits
+pub mod Cores
 pub mod Endings
 pub mod Histories
 pub mod Inserts
@@ -21,5 +22,7 @@ pub mod Settled
 pub mod Stages
 pub mod Stamps
 pub mod States
+pub mod Steps
+pub mod Turns
 pub mod Whole
 pub mod Writes

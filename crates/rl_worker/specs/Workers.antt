@@ -252,7 +252,8 @@ pub record IsOfAttempt (old new : Commit) : Type 0 where
   pub epoch : new.item.stamp.epoch ≡ old.item.stamp.epoch
   pub reply : new.item.reply ≡ old.item.reply
   pub writes : new.item.writes ≡ old.item.writes
-  pub decided : is_storing old.part ≡ true → (new.item ≡ old.item) × (is_storing new.part ≡ true)
+  pub part : is_storing new.part ≡ is_storing old.part
+  pub decided : is_storing old.part ≡ true → new.item ≡ old.item
 
 -- ---- what an act of the code is ----
 -- the packed stamp that comes next
@@ -308,18 +309,11 @@ pub record Commits (tables : List Table) (old new : Worker) (words words' : Word
   pub new_is : new ≡ finished old (decided to)
   pub ended : told.ended ≡ (if is_over (decided to) (decided to).part then decided_at (stage.Committing (decided to)) else None)
 
--- the code loaded a word or a cell
-pub record Loads (tables : List Table) (txn : List Op) (old new : Worker) (words : Words) (told : code.Moved) : Type 0 where
-  pub act : (s : Setting) (w epoch : ℕ) → IsAct s w epoch (phase_of tables old) (phase_of tables new) words words told
-  pub reads : is_reading old.stage ≡ true
-  pub attempt : IsAttemptOf old new
-  pub fits : StageFits tables txn new new.stage
-  pub undecided : decided_item new ≡ None
-
 -- the code made one act of an attempt, and what follows it
 pub data IsActed (tables : List Table) (txn : List Op) (old new : Worker) (words words' : Words) (told : code.Moved) : Type 0 where
-  Loaded : words' ≡ words → Loads tables txn old new words told → IsActed tables txn old new words words' told
-  Confirmed : words' ≡ words → is_reading old.stage ≡ true → Confirms tables txn old new words told → IsActed tables txn old new words words' told
+  Loaded : words' ≡ words → is_reading old.stage ≡ true → IsAttemptOf old new → StageFits tables txn new new.stage → decided_item new ≡ None
+      → ((s : Setting) (w epoch : ℕ) → IsAct s w epoch (phase_of tables old) (phase_of tables new) words words told) → IsActed tables txn old new words words' told
+  Confirmed : words' ≡ words → is_reading old.stage ≡ true → IsAttemptOf old new → StageFits tables txn new new.stage → decided_item new ≡ None → Confirms tables txn old new words told → IsActed tables txn old new words words' told
   Committed : Commits tables old new words words' told → IsActed tables txn old new words words' told
 
 -- ---- what a worker and the records stand for in the core ----

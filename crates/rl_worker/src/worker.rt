@@ -128,6 +128,7 @@ impl Worker {
         ensures phase { stage_phase schema.now self.now.index result ≡ asked self.now.index reading.reads.0 (outcome schema.now txn.now reading.reads.0) }
         ensures fits { StageFits schema.now txn.now self.now result }
         ensures undecided { decided_at result ≡ None }
+        ensures attempt { is_resting result ≡ false }
     {
         let mut reading = reading;
         match reading.eval.advance(schema, txn) {
@@ -188,6 +189,8 @@ impl Worker {
         ensures begun { OnOk result (IsAttemptOf self.old self.new) }
         ensures phase { OnOk result (phase_of schema.now self.new ≡ asked self.old.index [] (outcome schema.now txn.now [])) }
         ensures fits { OnOk result (StageFits schema.now txn.now self.new self.new.stage) }
+        ensures undecided { OnOk result (decided_item self.new ≡ None) }
+        ensures attempt { OnOk result (is_resting self.new.stage ≡ false) }
         ensures unchanged { OnErr result (self.new ≡ self.old) }
     {
         let reading = Reading::start(alloc, schema, txn)?;
@@ -354,6 +357,7 @@ impl Worker {
         };
         if self.at_rest() {
             self.begin(alloc, layout, schema, txn)?;
+            return Ok(self.act(words, layout, schema, txn));
         }
         Ok(self.act(words, layout, schema, txn))
     }

@@ -1,0 +1,227 @@
+-- A step of the code is a step of the core.
+use Rattle.std.proofs.Common.{◌≡◌, ℕ, zero, suc, ◌+◌, ◌*◌, ◌^◌, ◌<◌, ◌≤◌, List, [], ◌∷◌, ◌++◌, length, map, get_or, take, drop, set, Bool, true, false, not, nat_lt, is_some, if◌then◌else◌, ◌==◌, Option, Some, None, Result, Ok, Err, IfSome, IsSomeAnd, option_to_list, refl, sym, ap, ◌∙◌, subst, arith}
+use mathlib.Core.Bool.{false≢true}
+use Rattle.std.specs.Option.{option_map, option_map_or}
+use Rattle.std.proofs.lemmas.List.{get_or-set_same, length-set, set-set, set-get_or}
+use Rattle.rl_base.specs.declared.refusal.Refusal.{Refusal}
+use Rattle.rl_base.specs.Stamps.{packed}
+use Rattle.rl_value.specs.Tables.{Table}
+use Rattle.rl_txn.specs.declared.op.Op.{Op}
+use Rattle.rl_worker.specs.declared.act.Moved as code
+use Rattle.rl_worker.specs.declared.words.Words.{Words}
+use Rattle.rl_worker.specs.Phases.{Answer, Read, Install, Rec, Outcome, Phase, Rest, Asking, Wanting, Loading, Locking, Validating, Storing, Refusing, Setting, other, asked, with_read}
+use Rattle.rl_worker.specs.Items.{Item, place}
+use Rattle.rl_worker.specs.Acts as acts
+use Rattle.rl_worker.specs.Acts.{Cause, Locked, Changed, Event, Quiet, Drew, Won, Lost, LostDrawn, Core, no_rec, target, quiet, lost, lost_drawn, moved, first_load_of, confirm_of, lock_of, next_after, decided_after, refusals_after, won, passing, resting, micro, settle}
+use Rattle.rl_worker.specs.Workers.{found, refused, refusal_of, made, stamp_next, IsAct, joined}
+
+-- the phase after one passing phase is passed
+abbrev pub passed : Setting → ℕ → Phase → Phase
+passed s w p = if passing p then (moved s w 0 p no_rec).phase else p
+
+-- the item that passing a phase decides
+abbrev pub wins : ℕ → Phase → Option Item
+wins w (Rest q) = None
+wins w (Asking q reads) = None
+wins w (Wanting q reads r) = None
+wins w (Loading q reads r seen loaded) = None
+wins w (Locking q reads answer locked todo) = None
+wins w (Validating q t done [] answer writes) = Some (record { stamp = t; worker = w; index = q; answer = answer; writes = writes })
+wins w (Validating q t done (y ∷ todo) answer writes) = None
+wins w (Storing q t j todo) = None
+wins w (Refusing q todo) = None
+
+abbrev pub index_in : Phase → ℕ
+index_in (Rest q) = q
+index_in (Asking q reads) = q
+index_in (Wanting q reads r) = q
+index_in (Loading q reads r seen loaded) = q
+index_in (Locking q reads answer locked todo) = q
+index_in (Validating q t done todo answer writes) = q
+index_in (Storing q t j todo) = q
+index_in (Refusing q todo) = q
+
+abbrev pub lost_in : Event → Option acts.Refusal
+lost_in Quiet = None
+lost_in (Drew reads answer writes) = None
+lost_in (Won x) = None
+lost_in (Lost f) = Some f
+lost_in (LostDrawn t f) = Some f
+
+-- a core with a worker in a phase
+pub record At (core : Core) (w : ℕ) (p : Phase) (rs : List Rec) (n : ℕ) : Type 0 where
+  pub recs : core.recs ≡ rs
+  pub next : core.next ≡ n
+  pub there : w < length core.workers
+  pub phase : acts.phase_of core w ≡ p
+
+-- what an event adds to the lists of the core
+lost_added : (xs : List acts.Refusal) (e : Event) → refusals_after xs e ≡ option_to_list (lost_in e) ++ xs
+lost_added xs Quiet = refl
+lost_added xs (Drew reads answer writes) = refl
+lost_added xs (Won x) = refl
+lost_added xs (Lost f) = refl
+lost_added xs (LostDrawn t f) = refl
+
+lost_told : (e : Event) → refusal_of e ≡ option_map refused (lost_in e)
+lost_told Quiet = refl
+lost_told (Drew reads answer writes) = refl
+lost_told (Won x) = refl
+lost_told (Lost f) = refl
+lost_told (LostDrawn t f) = refl
+
+none_won : (xs : List Item) (e : Event) → won e ≡ None → decided_after xs e ≡ xs
+none_won xs Quiet h = refl
+none_won xs (Drew reads answer writes) h = refl
+none_won xs (Won x) h = absurd (cc)
+none_won xs (Lost f) h = refl
+none_won xs (LostDrawn t f) h = refl
+
+-- an act that is made wins nothing, and a refusal is that of the phase's request
+abbrev pub Plain : ℕ → ℕ → Event → Type 0
+Plain w q e = (won e ≡ None) × IfSome (lost_in e) (λ f. (f.worker ≡ w) × (f.index ≡ q))
+
+plain_test : (w q : ℕ) (b : Bool) (x y : acts.Moved) → Plain w q x.event → Plain w q y.event → Plain w q (if b then x else y).event
+plain_test w q true x y h k = h
+plain_test w q false x y h k = k
+
+plain_load : (w q : ℕ) (reads : List Read) (r : ℕ) (x : Rec) (o : Option ℕ) → Plain w q (first_load_of w q reads r x o).event
+plain_load w q reads r x None = (refl, tt)
+plain_load w q reads r x (Some v) = (refl, (refl, refl))
+
+plain_confirm : (w q : ℕ) (reads : List Read) (r seen : ℕ) (loaded : List ℕ) (x : Rec) (o : Option ℕ) → Plain w q (confirm_of w q reads r seen loaded x o).event
+plain_confirm w q reads r seen loaded x None = plain_test w q (x.stamp == seen) (quiet x (Asking q (with_read (record { rec = r; seen = seen; row = loaded }) reads))) (lost x (Rest q) w q r (Changed None seen x.stamp)) (refl, tt) (refl, (refl, refl))
+plain_confirm w q reads r seen loaded x (Some v) = (refl, (refl, refl))
+
+plain_lock : (w q : ℕ) (reads : List Read) (answer : Answer) (l : List Install) (y : Install) (todo : List Install) (x : Rec) (o : Option ℕ) → Plain w q (lock_of w q reads answer l y todo x o).event
+plain_lock w q reads answer l y todo x None = (refl, tt)
+plain_lock w q reads answer l y todo x (Some v) = (refl, (refl, refl))
+
+plain : (s : Setting) (w n : ℕ) (p : Phase) (x : Rec) → passing p ≡ false → Plain w (index_in p) (moved s w n p x).event
+plain s w n (Rest q) x h = (refl, tt)
+plain s w n (Asking q reads) x h = absurd (false≢true (sym h))
+plain s w n (Wanting q reads r) x h = plain_load w q reads r x x.holder
+plain s w n (Loading q reads r seen loaded) x h =
+    plain_test w q (nat_lt (length loaded) (length x.cells)) (quiet x (Loading q reads r seen (loaded ++ get_or x.cells (length loaded) 0 ∷ []))) (confirm_of w q reads r seen loaded x x.holder) (refl, tt) (plain_confirm w q reads r seen loaded x x.holder)
+plain s w n (Locking q reads answer l []) x h = (refl, tt)
+plain s w n (Locking q reads answer l (y ∷ todo)) x h = plain_lock w q reads answer l y todo x x.holder
+plain s w n (Validating q t done [] answer writes) x h = absurd (false≢true (sym h))
+plain s w n (Validating q t done (y ∷ todo) answer writes) x h =
+    plain_test w q (other w x.holder) (lost_drawn x (Refusing q writes) t w q y.rec (Locked x.holder x.stamp)) (if x.stamp == y.seen then quiet x (Validating q t (done ++ y ∷ []) todo answer writes) else lost_drawn x (Refusing q writes) t w q y.rec (Changed x.holder y.seen x.stamp))
+    (refl, (refl, refl)) (plain_test w q (x.stamp == y.seen) (quiet x (Validating q t (done ++ y ∷ []) todo answer writes)) (lost_drawn x (Refusing q writes) t w q y.rec (Changed x.holder y.seen x.stamp)) (refl, tt) (refl, (refl, refl)))
+plain s w n (Storing q t j []) x h = absurd (false≢true (sym h))
+plain s w n (Storing q t j (y ∷ todo)) x h =
+    plain_test w q (nat_lt j (length y.row)) (quiet (record { stamp = x.stamp; holder = x.holder; cells = set x.cells j (get_or y.row j 0) }) (Storing q t (suc j) (y ∷ todo))) (quiet (record { stamp = t; holder = None; cells = x.cells }) (Storing q t 0 todo)) (refl, tt) (refl, tt)
+plain s w n (Refusing q []) x h = absurd (false≢true (sym h))
+plain s w n (Refusing q (y ∷ todo)) x h = (refl, tt)
+
+-- one act of the core, where the code made one
+pub record Acted (core core' : Core) (w : ℕ) (p p' : Phase) (words' : Words) (e : ℕ) (t : code.Moved) : Type 0 where
+  pub at : At core' w p' words'.records.items (stamp_next e words')
+  pub workers : core'.workers ≡ set core.workers w p'
+  pub decided : core'.decided ≡ core.decided
+  pub refusal : Option acts.Refusal
+  pub refusals : core'.refusals ≡ option_to_list refusal ++ core.refusals
+  pub told : t.refused ≡ option_map refused refusal
+  pub of : IfSome refusal (λ f. (f.worker ≡ w) × (f.index ≡ index_in p))
+
+pub acted : (s : Setting) (core : Core) (w e : ℕ) (p p' : Phase) (words words' : Words) (told : code.Moved) → passing p ≡ false
+    → At core w p words.records.items (stamp_next e words) → IsAct s w e p p' words words' told → Acted core (micro s core w) w p p' words' e told
+acted s core w e p p' words words' told still at a =
+    let m : acts.Moved = moved s w core.next (acts.phase_of core w) (get_or core.recs (target (acts.phase_of core w)) no_rec) in
+    let m_is : m ≡ made s w e p words =
+        ap (λ (z : Phase). moved s w core.next z (get_or core.recs (target z) no_rec)) at.phase
+        ∙ ap (λ (rs : List Rec). moved s w core.next p (get_or rs (target p) no_rec)) at.recs
+        ∙ ap (λ n. moved s w n p (found words.records.items (target p))) at.next in
+    let ev : m.event ≡ (made s w e p words).event = ap (λ (z : acts.Moved). z.event) m_is in
+    let ph : m.phase ≡ p' = ap (λ (z : acts.Moved). z.phase) m_is ∙ sym a.phase in
+    let none = plain s w (stamp_next e words) p (found words.records.items (target p)) still in
+    record {
+      at = record {
+        recs = ap (λ (z : Phase). set core.recs (target z) m.rec) at.phase ∙ ap (λ (rs : List Rec). set rs (target p) m.rec) at.recs ∙ ap (λ (z : acts.Moved). set words.records.items (target p) z.rec) m_is ∙ sym a.recs;
+        next = ap (λ n. next_after n m.event) at.next ∙ ap (next_after (stamp_next e words)) ev ∙ sym a.next;
+        there = subst (λ n. w < n) (sym (length-set core.workers w m.phase)) at.there;
+        phase = get_or-set_same core.workers w m.phase (Rest 0) at.there ∙ ph;
+      };
+      workers = ap (set core.workers w) ph;
+      decided = none_won core.decided m.event (ap won ev ∙ none.0);
+      refusal = lost_in (made s w e p words).event;
+      refusals = lost_added core.refusals m.event ∙ ap (λ z. option_to_list (lost_in z) ++ core.refusals) ev;
+      told = a.refused ∙ lost_told (made s w e p words).event;
+      of = none.1;
+    }
+
+-- a passing phase is passed
+pub record Settled (core core' : Core) (w : ℕ) (p' : Phase) (o : Option Item) (recs : List Rec) (n : ℕ) : Type 0 where
+  pub at : At core' w p' recs n
+  pub workers : core'.workers ≡ set core.workers w p'
+  pub decided : core'.decided ≡ joined o core.decided
+  pub refusals : core'.refusals ≡ core.refusals
+
+module _ (s : Setting) (core : Core) (w : ℕ) (recs : List Rec) (n : ℕ) where
+  -- an act that looks at no record
+  idle_act : (p p' : Phase) (e : Event) → At core w p recs n → ((x : Rec) (k : ℕ) → moved s w k p x ≡ record { phase = p'; rec = x; event = e }) → ((k : ℕ) → next_after k e ≡ k) → (o : Option Item) → ((xs : List Item) → decided_after xs e ≡ joined o xs)
+      → ((xs : List acts.Refusal) → refusals_after xs e ≡ xs) → Settled core (micro s core w) w p' o recs n
+  idle_act p p' e at is same o adds none =
+      let found_rec : Rec = get_or core.recs (target (acts.phase_of core w)) no_rec in
+      let m : acts.Moved = moved s w core.next (acts.phase_of core w) found_rec in
+      let m_is : m ≡ record { phase = p'; rec = found_rec; event = e } = ap (λ (z : Phase). moved s w core.next z found_rec) at.phase ∙ is found_rec core.next in
+      let ev : m.event ≡ e = ap (λ (z : acts.Moved). z.event) m_is in
+      let ph : m.phase ≡ p' = ap (λ (z : acts.Moved). z.phase) m_is in
+      record {
+        at = record {
+          recs = ap (λ (z : acts.Moved). set core.recs (target (acts.phase_of core w)) z.rec) m_is ∙ set-get_or core.recs (target (acts.phase_of core w)) no_rec ∙ at.recs;
+          next = ap (next_after core.next) ev ∙ same core.next ∙ at.next;
+          there = subst (λ k. w < k) (sym (length-set core.workers w m.phase)) at.there;
+          phase = get_or-set_same core.workers w m.phase (Rest 0) at.there ∙ ph;
+        };
+        workers = ap (set core.workers w) ph;
+        decided = ap (decided_after core.decided) ev ∙ adds core.decided;
+        refusals = ap (refusals_after core.refusals) ev ∙ none core.refusals;
+      }
+
+  stays : (p : Phase) → At core w p recs n → passing p ≡ false → Settled core (settle s core w) w p None recs n
+  stays p at still =
+      let no : passing (acts.phase_of core w) ≡ false = ap passing at.phase ∙ still in
+      let same : settle s core w ≡ core = ap (λ b. if b then micro s core w else core) no in
+      subst (λ (z : Core). Settled core z w p None recs n) (sym same) (record {
+        at = at;
+        workers = sym (ap (set core.workers w) (sym at.phase) ∙ set-get_or core.workers w (Rest 0));
+        decided = refl;
+        refusals = refl;
+      })
+
+  goes : (p p' : Phase) (o : Option Item) → At core w p recs n → passing p ≡ true → Settled core (micro s core w) w p' o recs n → Settled core (settle s core w) w p' o recs n
+  goes p p' o at passes done =
+      let yes : passing (acts.phase_of core w) ≡ true = ap passing at.phase ∙ passes in
+      let same : settle s core w ≡ micro s core w = ap (λ b. if b then micro s core w else core) yes in
+      subst (λ (z : Core). Settled core z w p' o recs n) (sym same) done
+
+  pub settled : (p : Phase) → At core w p recs n → Settled core (settle s core w) w (passed s w p) (wins w p) recs n
+  settled (Rest q) at = stays (Rest q) at refl
+  settled (Asking q reads) at = goes (Asking q reads) (asked q reads (s.ask w q reads)) None at refl (idle_act (Asking q reads) _ Quiet at (λ x k. refl) (λ k. refl) None (λ xs. refl) (λ xs. refl))
+  settled (Wanting q reads r) at = stays (Wanting q reads r) at refl
+  settled (Loading q reads r seen loaded) at = stays (Loading q reads r seen loaded) at refl
+  settled (Locking q reads answer l todo) at = stays (Locking q reads answer l todo) at refl
+  settled (Validating q t done [] answer writes) at =
+      let item : Item = record { stamp = t; worker = w; index = q; answer = answer; writes = writes } in
+      goes (Validating q t done [] answer writes) (Storing q t 0 writes) (Some item) at refl (idle_act (Validating q t done [] answer writes) _ (Won item) at (λ x k. refl) (λ k. refl) (Some item) (λ xs. refl) (λ xs. refl))
+  settled (Validating q t done (y ∷ todo) answer writes) at = stays (Validating q t done (y ∷ todo) answer writes) at refl
+  settled (Storing q t j []) at = goes (Storing q t j []) (Rest (suc q)) None at refl (idle_act (Storing q t j []) _ Quiet at (λ x k. refl) (λ k. refl) None (λ xs. refl) (λ xs. refl))
+  settled (Storing q t j (y ∷ todo)) at = stays (Storing q t j (y ∷ todo)) at refl
+  settled (Refusing q []) at = goes (Refusing q []) (Rest q) None at refl (idle_act (Refusing q []) _ Quiet at (λ x k. refl) (λ k. refl) None (λ xs. refl) (λ xs. refl))
+  settled (Refusing q (y ∷ todo)) at = stays (Refusing q (y ∷ todo)) at refl
+
+-- a worker at rest begins its request
+pub begun : (s : Setting) (core : Core) (w : ℕ) (recs : List Rec) (n q : ℕ) → At core w (Rest q) recs n → Settled core (acts.begin s core w) w (asked q [] (s.ask w q [])) None recs n
+begun s core w recs n q at =
+    let rests : resting (acts.phase_of core w) ≡ true = ap resting at.phase in
+    let same : acts.begin s core w ≡ micro s (micro s core w) w = ap (λ b. if b then micro s (micro s core w) w else core) rests in
+    let a = idle_act s core w recs n (Rest q) (Asking q []) Quiet at (λ x k. refl) (λ k. refl) None (λ xs. refl) (λ xs. refl) in
+    let b = idle_act s (micro s core w) w recs n (Asking q []) (asked q [] (s.ask w q [])) Quiet a.at (λ x k. refl) (λ k. refl) None (λ xs. refl) (λ xs. refl) in
+    subst (λ (z : Core). Settled core z w (asked q [] (s.ask w q [])) None recs n) (sym same) (record {
+      at = b.at;
+      workers = b.workers ∙ ap (λ ws. set ws w (asked q [] (s.ask w q []))) a.workers ∙ set-set core.workers w (Asking q []) (asked q [] (s.ask w q []));
+      decided = b.decided ∙ a.decided;
+      refusals = b.refusals ∙ a.refusals;
+    })

@@ -1,0 +1,369 @@
+-- What an act of the code comes to in the core, with what follows it.
+use Rattle.std.proofs.Common.{◌≡◌, ◌≢◌, ℕ, zero, suc, ◌+◌, ◌*◌, ◌^◌, ◌<◌, ◌≤◌, List, [], ◌∷◌, ◌++◌, length, map, get_or, take, drop, set, Bool, true, false, not, nat_lt, is_some, if◌then◌else◌, ◌==◌, Option, Some, None, Result, Ok, Err, IfSome, IsSomeAnd, option_to_list, refl, sym, ap, ◌∙◌, subst, arith, add-one, inl, inr, ◌⊎◌}
+use mathlib.Core.Bool.{false≢true}
+use Rattle.std.proofs.lemmas.Bool.Decides.{eqb_tells, nat_tests}
+use Rattle.std.specs.Option.{option_map, option_map_or}
+use Rattle.std.proofs.lemmas.List.{get_or-set_same, length-set, set-set, set-get_or, drop_more, drop_all, length-map, length-take-le, length-drop}
+use Rattle.rl_base.specs.declared.refusal.Refusal.{Refusal}
+use Rattle.rl_base.specs.Stamps.{packed}
+use Rattle.rl_value.specs.Rows.{Rows}
+use Rattle.rl_value.specs.Tables.{Table}
+use Rattle.rl_txn.specs.declared.op.Op.{Op}
+use Rattle.rl_txn.specs.declared.item.Item as txn
+use Rattle.rl_worker.specs.declared.act.Moved as code
+use Rattle.rl_worker.specs.declared.words.Words.{Words}
+use Rattle.rl_worker.specs.declared.commit.Commit.{Commit}
+use Rattle.rl_worker.specs.declared.commit.Part.{Part}
+use Rattle.rl_worker.specs.declared.commit.Part.TheVariants as part
+use Rattle.rl_worker.specs.declared.reading.Reading.{Reading}
+use Rattle.rl_worker.specs.declared.worker.Stage.{Stage}
+use Rattle.rl_worker.specs.declared.worker.Stage.TheVariants as stage
+use Rattle.rl_worker.specs.declared.worker.Worker.{Worker}
+use Rattle.rl_worker.specs.Phases.{Answer, Read, Install, Rec, Outcome, Wants, Ends, Phase, Rest, Asking, Wanting, Loading, Locking, Validating, Storing, Refusing, Setting, asked}
+use Rattle.rl_worker.specs.Items.{Item}
+use Rattle.rl_worker.specs.Acts as acts
+use Rattle.rl_worker.specs.Acts.{Core, passing, resting, micro, settle}
+use Rattle.rl_worker.specs.Opening.{install_of, outcome, request, setting_of}
+use Rattle.rl_worker.specs.Workers.{installs, part_phase, commit_phase, reading_phase, stage_phase, phase_of, PartFits, HasMore, CommitFits, StageFits, IsAttemptOf, IsOfAttempt, IsAct, is_storing, is_over, decided_in, decided, decided_at, decided_item, ended, finished, is_reading, is_resting, confirmed_phase, ran_on, Confirms, Commits, IsActed, Loaded, Confirmed, Committed, Stands, Steps, stamp_next, either, newly_decided, core_item, joined, refused}
+use Rattle.rl_worker.proofs.Cores.{passed, wins, index_in, At, acted, settled}
+
+-- nothing is passed in a phase in which a worker may stand
+pub not_passed : (s : Setting) (w : ℕ) (p : Phase) → passing p ≡ false → (passed s w p ≡ p) × (wins w p ≡ None)
+not_passed s w (Rest q) h = (refl, refl)
+not_passed s w (Asking q reads) h = absurd (false≢true (sym h))
+not_passed s w (Wanting q reads r) h = (refl, refl)
+not_passed s w (Loading q reads r seen loaded) h = (refl, refl)
+not_passed s w (Locking q reads answer l todo) h = (refl, refl)
+not_passed s w (Validating q t done [] answer writes) h = absurd (false≢true (sym h))
+not_passed s w (Validating q t done (y ∷ todo) answer writes) h = (refl, refl)
+not_passed s w (Storing q t j []) h = absurd (false≢true (sym h))
+not_passed s w (Storing q t j (y ∷ todo)) h = (refl, refl)
+not_passed s w (Refusing q []) h = absurd (false≢true (sym h))
+not_passed s w (Refusing q (y ∷ todo)) h = (refl, refl)
+
+some_left : {X : Type 0} (xs : List X) (i : ℕ) (P : List X → Type 0) → i < length xs → ((y : X) (ys : List X) → P (y ∷ ys)) → P (drop i xs)
+some_left {X = X} xs i P l k = go (drop i xs) refl
+  where
+    go : (ys : List X) → drop i xs ≡ ys → P ys
+    go [] e = let n = length-drop i xs in absurd (omega (arith, ap length e))
+    go (y ∷ ys) e = k y ys
+
+installs_length : (tables : List Table) (c : Commit) → length (installs tables c) ≡ length c.item.writes
+installs_length tables c = length-map c.item.writes (install_of tables)
+
+still_part : (tables : List Table) (c : Commit) (p : Part) → PartFits c p → HasMore c p → passing (part_phase tables c p) ≡ false
+still_part tables c (part.Locking held) f m = refl
+still_part tables c (part.Validating done) f m = some_left c.reads.0 done (λ ys. passing (Validating c.item.index (packed c.item.stamp) (take done c.reads.0) ys (c.item.reply, c.item.writes) (installs tables c)) ≡ false) m (λ y ys. refl)
+still_part tables c (part.Storing place stored) f m =
+    let n = installs_length tables c in
+    some_left (installs tables c) place (λ ys. passing (Storing c.item.index (packed c.item.stamp) stored ys) ≡ false) (omega arith) (λ y ys. refl)
+still_part tables c (part.Refusing place held) f m =
+    let n = installs_length tables c in
+    let t = length-take-le held (installs tables c) (omega (arith, f.1)) in
+    some_left (take held (installs tables c)) place (λ ys. passing (Refusing c.item.index ys) ≡ false) (omega arith) (λ y ys. refl)
+
+still_reading : (q : ℕ) (r : Reading) → passing (reading_phase q r) ≡ false
+still_reading q r = go r.is_open
+  where
+    go : (b : Bool) → passing (if b then Loading q r.reads.0 r.next.rec r.next.seen r.next.row else Wanting q r.reads.0 r.next.rec) ≡ false
+    go true = refl
+    go false = refl
+
+-- a worker stands in no passing phase
+pub still : (tables : List Table) (txn : List Op) (w : Worker) (st : Stage) → StageFits tables txn w st → passing (stage_phase tables w.index st) ≡ false
+still tables txn w stage.Resting f = refl
+still tables txn w (stage.Reading r) f = still_reading w.index r
+still tables txn w (stage.Committing c) f = still_part tables c c.part f.0.part f.4
+
+index_reading : (q : ℕ) (r : Reading) → index_in (reading_phase q r) ≡ q
+index_reading q r = go r.is_open
+  where
+    go : (b : Bool) → index_in (if b then Loading q r.reads.0 r.next.rec r.next.seen r.next.row else Wanting q r.reads.0 r.next.rec) ≡ q
+    go true = refl
+    go false = refl
+
+index_part : (tables : List Table) (c : Commit) (p : Part) → index_in (part_phase tables c p) ≡ c.item.index
+index_part tables c (part.Locking held) = refl
+index_part tables c (part.Validating done) = refl
+index_part tables c (part.Storing place stored) = refl
+index_part tables c (part.Refusing place held) = refl
+
+index_stage : (tables : List Table) (txn : List Op) (w : Worker) (st : Stage) → StageFits tables txn w st → index_in (stage_phase tables w.index st) ≡ w.index
+index_stage tables txn w stage.Resting f = refl
+index_stage tables txn w (stage.Reading r) f = index_reading w.index r
+index_stage tables txn w (stage.Committing c) f = index_part tables c c.part ∙ f.2
+
+-- what an act and what follows it come to, by the phase that the act leads to
+pub record Turned (tables : List Table) (s : Setting) (old new : Worker) (words words' : Words) (told : code.Moved) : Type 0 where
+  pub to : Phase
+  pub act : IsAct s old.number old.epoch (phase_of tables old) to words words' (record told { ended = None })
+  pub phase : phase_of tables new ≡ passed s old.number (passed s old.number to)
+  pub number : new.number ≡ old.number
+  pub epoch : new.epoch ≡ old.epoch
+  pub first : wins old.number to ≡ option_map (core_item tables) (newly_decided old new told)
+  pub second : wins old.number (passed s old.number to) ≡ None
+  pub kept : IfSome (decided_item old) (λ x. either told.ended (decided_item new) ≡ Some x)
+
+-- then it is a step of the core
+pub turned : (tables : List Table) (txn : List Op) (s : Setting) (old new : Worker) (words words' : Words) (told : code.Moved) (core : Core)
+    → StageFits tables txn old old.stage → Stands tables old words core → Turned tables s old new words words' told
+    → Steps tables old new words' told core (settle s (settle s (micro s core old.number) old.number) old.number)
+turned tables txn s old new words words' told core fits st t =
+    let w = old.number in
+    let p = phase_of tables old in
+    let at : At core w p words.records.items (stamp_next old.epoch words) = record { recs = st.recs; next = st.next; there = st.there; phase = st.phase } in
+    let a = acted s core w old.epoch p t.to words words' (record told { ended = None }) (still tables txn old old.stage fits) at t.act in
+    let b = settled s (micro s core w) w words'.records.items (stamp_next old.epoch words') t.to a.at in
+    let c = settled s (settle s (micro s core w) w) w words'.records.items (stamp_next old.epoch words') (passed s w t.to) b.at in
+    let core' = settle s (settle s (micro s core w) w) w in
+    let number = sym t.number in
+    record {
+      stands = record {
+        recs = c.at.recs;
+        next = c.at.next ∙ ap (λ e. stamp_next e words') (sym t.epoch);
+        there = subst (λ n. n < length core'.workers) number c.at.there;
+        phase = ap (acts.phase_of core') t.number ∙ c.at.phase ∙ sym t.phase;
+      };
+      number = t.number;
+      epoch = t.epoch;
+      others = c.workers ∙ ap (λ ws. set ws w (passed s w (passed s w t.to))) (b.workers ∙ ap (λ ws. set ws w (passed s w t.to)) a.workers) ∙ ap (λ ws. set ws w (passed s w (passed s w t.to))) (set-set core.workers w t.to (passed s w t.to))
+          ∙ set-set core.workers w (passed s w t.to) (passed s w (passed s w t.to)) ∙ ap (set core.workers w) (sym t.phase);
+      decided = c.decided ∙ ap (λ o. joined o (settle s (micro s core w) w).decided) t.second ∙ b.decided ∙ ap (λ o. joined o (micro s core w).decided) t.first ∙ ap (joined (option_map (core_item tables) (newly_decided old new told))) a.decided;
+      kept = t.kept;
+      refusal = a.refusal;
+      refusals = c.refusals ∙ b.refusals ∙ a.refusals;
+      refused = a.told;
+      of = go a.refusal a.of;
+    }
+  where
+    go : (o : Option acts.Refusal) → IfSome o (λ f. (f.worker ≡ old.number) × (f.index ≡ index_in (phase_of tables old))) → IfSome o (λ f. (f.worker ≡ old.number) × (f.index ≡ old.index))
+    go None h = tt
+    go (Some f) h = (h.0, h.1 ∙ index_stage tables txn old old.stage fits)
+
+none_new : (tables : List Table) (old new : Worker) (told : code.Moved) → decided_item new ≡ None → told.ended ≡ None → None ≡ option_map (core_item tables) (newly_decided old new told)
+none_new tables old new told n e =
+    ap (option_map (core_item tables)) (go (is_some (decided_item old)) ∙ ap (λ o. if is_some (decided_item old) then None else either o (decided_item new)) (sym e))
+  where
+    go : (b : Bool) → None ≡ (if b then None else either None (decided_item new))
+    go true = refl
+    go false = sym n
+
+reads_none : (st : Stage) → is_reading st ≡ true → decided_at st ≡ None
+reads_none stage.Resting h = absurd (false≢true h)
+reads_none (stage.Reading r) h = refl
+reads_none (stage.Committing c) h = absurd (false≢true h)
+
+kept_none : (P : txn.Item → Type 0) (o : Option txn.Item) → o ≡ None → IfSome o P
+kept_none P None e = tt
+kept_none P (Some x) e = absurd (cc)
+
+same_told : (s : Setting) (w e : ℕ) (p p' : Phase) (words words' : Words) (told : code.Moved) → IsAct s w e p p' words words' told → IsAct s w e p p' words words' (record told { ended = None })
+same_told s w e p p' words words' told a = record { phase = a.phase; recs = a.recs; next = a.next; refused = a.refused; act = a.act; ended = refl }
+
+turned_loaded : (tables : List Table) (txn : List Op) (s : Setting) (old new : Worker) (words : Words) (told : code.Moved) → is_reading old.stage ≡ true → IsAttemptOf old new → StageFits tables txn new new.stage → decided_item new ≡ None
+    → ((s : Setting) (w epoch : ℕ) → IsAct s w epoch (phase_of tables old) (phase_of tables new) words words told) → Turned tables s old new words words told
+turned_loaded tables txn s old new words told reads attempt fits none act =
+    let to = phase_of tables new in
+    let stay = not_passed s old.number to (still tables txn new new.stage fits) in
+    let a = act s old.number old.epoch in
+    record {
+      to = to;
+      act = same_told s old.number old.epoch (phase_of tables old) to words words told a;
+      phase = sym (ap (passed s old.number) stay.0 ∙ stay.0);
+      number = attempt.number;
+      epoch = attempt.epoch;
+      first = stay.1 ∙ none_new tables old new told none a.ended;
+      second = ap (wins old.number) stay.0 ∙ stay.1;
+      kept = kept_none _ (decided_item old) (reads_none old.stage reads);
+    }
+
+still_asked : (q : ℕ) (reads : List Read) (o : Outcome) → passing (asked q reads o) ≡ false
+still_asked q reads (Wants r) = refl
+still_asked q reads (Ends answer writes) = refl
+
+turned_confirmed : (tables : List Table) (txn : List Op) (s : Setting) (old new : Worker) (words : Words) (told : code.Moved) → ((reads : List Read) → s.ask old.number old.index reads ≡ outcome tables txn reads)
+    → is_reading old.stage ≡ true → IsAttemptOf old new → decided_item new ≡ None → Confirms tables txn old new words told → Turned tables s old new words words told
+turned_confirmed tables txn s old new words told asks reads attempt none c = go c.left c.act c.ran
+  where
+    go : (left : Result Reading Refusal) → ((s : Setting) (w epoch : ℕ) → IsAct s w epoch (phase_of tables old) (confirmed_phase old.index left) words words told) → phase_of tables new ≡ ran_on tables txn old.index left → Turned tables s old new words words told
+    go (Ok r) act ran =
+        let a = act s old.number old.epoch in
+        let next : Phase = asked old.index r.reads.0 (s.ask old.number old.index r.reads.0) in
+        let stay = not_passed s old.number next (still_asked old.index r.reads.0 (s.ask old.number old.index r.reads.0)) in
+        record {
+          to = Asking old.index r.reads.0;
+          act = same_told s old.number old.epoch (phase_of tables old) (Asking old.index r.reads.0) words words told a;
+          phase = ran ∙ ap (asked old.index r.reads.0) (sym (asks r.reads.0)) ∙ sym stay.0;
+          number = attempt.number;
+          epoch = attempt.epoch;
+          first = none_new tables old new told none a.ended;
+          second = stay.1;
+          kept = kept_none _ (decided_item old) (reads_none old.stage reads);
+        }
+    go (Err f) act ran =
+        let a = act s old.number old.epoch in
+        record {
+          to = Rest old.index;
+          act = same_told s old.number old.epoch (phase_of tables old) (Rest old.index) words words told a;
+          phase = ran;
+          number = attempt.number;
+          epoch = attempt.epoch;
+          first = none_new tables old new told none a.ended;
+          second = refl;
+          kept = kept_none _ (decided_item old) (reads_none old.stage reads);
+        }
+
+-- the item of a commit that is over
+abbrev pub over_item : Commit → Option txn.Item
+over_item d = if is_over d d.part then decided_at (stage.Committing d) else None
+
+-- what it comes to by what is left to do
+pub record Comes (tables : List Table) (s : Setting) (old : Worker) (t : Commit) : Type 0 where
+  pub phase : passed s old.number (passed s old.number (commit_phase tables t)) ≡ phase_of tables (finished old (decided t))
+  pub first : wins old.number (commit_phase tables t) ≡ option_map (core_item tables) (if is_storing t.part then None else either (over_item (decided t)) (decided_item (finished old (decided t))))
+  pub second : wins old.number (passed s old.number (commit_phase tables t)) ≡ None
+  pub kept : is_storing t.part ≡ true → either (over_item (decided t)) (decided_item (finished old (decided t))) ≡ Some t.item
+
+module _ (tables : List Table) (s : Setting) (old : Worker) (c : Commit) (i : c.item.index ≡ old.index) (w_is : c.item.worker ≡ old.number) where
+  w : ℕ
+  w = old.number
+
+  -- a decided commit is over where all its writes are installed
+  storing : (at stored : ℕ) → at ≤ length c.item.writes
+      → (passed s old.number (Storing c.item.index (packed c.item.stamp) stored (drop at (installs tables c))) ≡ phase_of tables (finished old (record c { part = part.Storing at stored })))
+      × (passed s old.number (passed s old.number (Storing c.item.index (packed c.item.stamp) stored (drop at (installs tables c)))) ≡ phase_of tables (finished old (record c { part = part.Storing at stored })))
+      × (either (over_item (record c { part = part.Storing at stored })) (decided_item (finished old (record c { part = part.Storing at stored }))) ≡ Some c.item)
+  storing at stored f = elim (eqb_tells at (length c.item.writes)) [
+      | inl e ↦ (
+          let n = installs_length tables c in
+          let none : drop at (installs tables c) ≡ [] = drop_all at (installs tables c) (omega (arith, e.1)) in
+          (rw (e.0, none) (ap Rest (sym (add-one c.item.index) ∙ ap (λ k. k + 1) i)), rw (e.0, none) (ap Rest (sym (add-one c.item.index) ∙ ap (λ k. k + 1) i)), rw e.0 refl))
+      | inr e ↦ (
+          let n = installs_length tables c in
+          let more : at < length (installs tables c) = omega (arith, e.1) in
+          let stay = some_left (installs tables c) at (λ ys. passing (Storing c.item.index (packed c.item.stamp) stored ys) ≡ false) more (λ y ys. refl) in
+          let k = not_passed s old.number (Storing c.item.index (packed c.item.stamp) stored (drop at (installs tables c))) stay in
+          (rw e.0 k.0, rw e.0 (ap (passed s old.number) k.0 ∙ k.0), rw e.0 refl))
+    ]
+
+  refusing : (at held : ℕ) → at ≤ held → held ≤ length c.item.writes
+      → (passed s old.number (passed s old.number (Refusing c.item.index (drop at (take held (installs tables c))))) ≡ phase_of tables (finished old (record c { part = part.Refusing at held })))
+      × (wins old.number (passed s old.number (Refusing c.item.index (drop at (take held (installs tables c))))) ≡ None)
+      × (wins old.number (Refusing c.item.index (drop at (take held (installs tables c)))) ≡ None)
+      × (either (over_item (record c { part = part.Refusing at held })) (decided_item (finished old (record c { part = part.Refusing at held }))) ≡ None)
+  refusing at held f g =
+      let n = installs_length tables c in
+      let t = length-take-le held (installs tables c) (omega (arith, g)) in
+      elim (eqb_tells at held) [
+      | inl e ↦ (
+          let none : drop at (take held (installs tables c)) ≡ [] = drop_all at (take held (installs tables c)) (omega (arith, e.1)) in
+          (rw (e.0, none) (ap Rest i), rw none refl, refl, rw e.0 refl))
+      | inr e ↦ (
+          let stay = some_left (take held (installs tables c)) at (λ ys. passing (Refusing c.item.index ys) ≡ false) (omega (arith, e.1)) (λ y ys. refl) in
+          let p : Phase = Refusing c.item.index (drop at (take held (installs tables c))) in
+          let k = not_passed s old.number p stay in
+          (rw e.0 (ap (passed s old.number) k.0 ∙ k.0), ap (wins old.number) k.0 ∙ k.1, k.1, rw e.0 refl))
+    ]
+
+  comes : (p : Part) → PartFits (record c { part = p }) p → Comes tables s old (record c { part = p })
+  comes (part.Locking held) f = record { phase = refl; first = refl; second = refl; kept = λ h. absurd (false≢true h) }
+  comes (part.Storing at stored) f =
+      let st = storing at stored f in
+      record {
+        phase = st.1;
+        first = no_win (drop at (installs tables c));
+        second = no_second (drop at (installs tables c));
+        kept = λ h. st.2;
+      }
+    where
+      no_win : (ys : List Install) → wins old.number (Storing c.item.index (packed c.item.stamp) stored ys) ≡ None
+      no_win ys = refl
+
+      no_second : (ys : List Install) → wins old.number (passed s old.number (Storing c.item.index (packed c.item.stamp) stored ys)) ≡ None
+      no_second [] = refl
+      no_second (y ∷ ys) = refl
+  comes (part.Validating done) f = elim (eqb_tells done (length c.reads.0)) [
+      | inl e ↦ (
+          let none : drop done c.reads.0 ≡ [] = drop_all done c.reads.0 (omega (arith, e.1)) in
+          let st = storing 0 0 (omega arith) in
+          record {
+            phase = rw (none, e.0) st.0;
+            first = rw (none, e.0) (won_is ∙ ap (option_map (core_item tables)) (sym st.2));
+            second = rw none refl;
+            kept = λ h. absurd (false≢true h);
+          })
+      | inr e ↦ (
+          let stay = some_left c.reads.0 done (λ ys. passing (Validating c.item.index (packed c.item.stamp) (take done c.reads.0) ys (c.item.reply, c.item.writes) (installs tables c)) ≡ false) (omega (arith, e.1, f)) (λ y ys. refl) in
+          let p : Phase = Validating c.item.index (packed c.item.stamp) (take done c.reads.0) (drop done c.reads.0) (c.item.reply, c.item.writes) (installs tables c) in
+          let k = not_passed s old.number p stay in
+          record {
+            phase = rw e.0 (ap (passed s old.number) k.0 ∙ k.0);
+            first = rw e.0 k.1;
+            second = ap (wins old.number) k.0 ∙ k.1;
+            kept = λ h. absurd (false≢true h);
+          })
+    ]
+    where
+      won_is : Some (record { stamp = packed c.item.stamp; worker = old.number; index = c.item.index; answer = (c.item.reply, c.item.writes); writes = installs tables c }) ≡ option_map (core_item tables) (Some c.item)
+      won_is = ap (λ k. Some (record { stamp = packed c.item.stamp; worker = k; index = c.item.index; answer = (c.item.reply, c.item.writes); writes = installs tables c })) (sym w_is)
+  comes (part.Refusing at held) f =
+      let r = refusing at held f.0 f.1 in
+      record { phase = r.0; first = r.2 ∙ ap (option_map (core_item tables)) (sym r.3); second = r.1; kept = λ h. absurd (false≢true h) }
+
+turned_committed : (tables : List Table) (s : Setting) (old new : Worker) (words words' : Words) (told : code.Moved) → (c : Commits tables old new words words' told)
+    → c.was.item.worker ≡ old.number → c.was.item.index ≡ old.index → Turned tables s old new words words' told
+turned_committed tables s old new words words' told c w_is i_is =
+    let t = c.to in
+    let m = comes tables s old t (c.attempt.index ∙ i_is) (c.attempt.worker ∙ w_is) t.part c.fits.part in
+    let was : decided_item old ≡ (if is_storing c.was.part then Some c.was.item else None) = ap decided_at c.old_is in
+    let now : decided_item new ≡ decided_item (finished old (decided t)) = ap decided_item c.new_is in
+    record {
+      to = commit_phase tables t;
+      act = c.act s;
+      phase = ap (phase_of tables) c.new_is ∙ sym m.phase;
+      number = ap (λ (z : Worker). z.number) c.new_is ∙ number (decided t);
+      epoch = ap (λ (z : Worker). z.epoch) c.new_is ∙ epoch (decided t);
+      first = m.first ∙ ap (option_map (core_item tables)) (
+          ap (λ b. if b then None else either (over_item (decided t)) (decided_item (finished old (decided t)))) c.attempt.part
+          ∙ firsts (is_storing c.was.part) c.was.item (either (over_item (decided t)) (decided_item (finished old (decided t))))
+          ∙ ap (λ o. if is_some o then None else either (over_item (decided t)) (decided_item (finished old (decided t)))) (sym was)
+          ∙ ap (λ o. if is_some (decided_item old) then None else either o (decided_item (finished old (decided t)))) (sym c.ended)
+          ∙ ap (λ o. if is_some (decided_item old) then None else either told.ended o) (sym now));
+      second = m.second;
+      kept = keeps (is_storing c.was.part) refl (decided_item old) was (λ h. ap (λ o. either o (decided_item new)) c.ended ∙ ap (either (over_item (decided t))) now ∙ m.kept (c.attempt.part ∙ h) ∙ ap Some (c.attempt.decided h));
+    }
+  where
+    number : (d : Commit) → (finished old d).number ≡ old.number
+    number d = go (is_over d d.part)
+      where
+        go : (b : Bool) → (if b then ended old d else record old { stage = stage.Committing d }).number ≡ old.number
+        go true = refl
+        go false = refl
+
+    epoch : (d : Commit) → (finished old d).epoch ≡ old.epoch
+    epoch d = go (is_over d d.part)
+      where
+        go : (b : Bool) → (if b then ended old d else record old { stage = stage.Committing d }).epoch ≡ old.epoch
+        go true = refl
+        go false = refl
+
+    firsts : (b : Bool) (x : txn.Item) (o : Option txn.Item) → (if b then None else o) ≡ (if is_some (if b then Some x else None) then None else o)
+    firsts true x o = refl
+    firsts false x o = refl
+
+    keeps : (b : Bool) → is_storing c.was.part ≡ b → (o : Option txn.Item) → o ≡ (if b then Some c.was.item else None) → (b ≡ true → either told.ended (decided_item new) ≡ Some c.was.item) → IfSome o (λ x. either told.ended (decided_item new) ≡ Some x)
+    keeps b e None h k = tt
+    keeps true e (Some x) h k = let same : c.was.item ≡ x = cc in k refl ∙ ap Some same
+    keeps false e (Some x) h k = absurd (cc)
+
+-- an act of an attempt is a step of the core without its beginning
+pub stepped : (tables : List Table) (txn : List Op) (s : Setting) (old new : Worker) (words words' : Words) (told : code.Moved) (core : Core) → ((reads : List Read) → s.ask old.number old.index reads ≡ outcome tables txn reads)
+    → StageFits tables txn old old.stage → Stands tables old words core → IsActed tables txn old new words words' told
+    → Steps tables old new words' told core (settle s (settle s (micro s core old.number) old.number) old.number)
+stepped tables txn s old new words words' told core asks fits st (Loaded same reads attempt f none act) =
+    turned tables txn s old new words words' told core fits st (subst (λ z. Turned tables s old new words z told) (sym same) (turned_loaded tables txn s old new words told reads attempt f none act))
+stepped tables txn s old new words words' told core asks fits st (Confirmed same reads attempt f none c) =
+    turned tables txn s old new words words' told core fits st (subst (λ z. Turned tables s old new words z told) (sym same) (turned_confirmed tables txn s old new words told asks reads attempt none c))
+stepped tables txn s old new words words' told core asks fits st (Committed c) =
+    let mine : StageFits tables txn old (stage.Committing c.was) = subst (StageFits tables txn old) c.old_is fits in
+    turned tables txn s old new words words' told core fits st (turned_committed tables s old new words words' told c mine.1 mine.2)
