@@ -1,31 +1,27 @@
 -- What the lines so far keep, over one more line.
-use Rattle.std.proofs.Common.{◌≡◌, ◌≢◌, ℕ, ◌+◌, ◌-◌, ◌*◌, ◌<◌, ◌≤◌, ◌==◌, ◌&&◌, cond, List, [], ◌∷◌, ◌++◌, length, All, sum_by, replicate, slice_get, Bool, true, false, Option, Some, None, IfSome, is_some, if◌then◌else◌, zero, suc, refl, ap, sym, ◌∙◌, subst, arith, length-append}
+use Rattle.std.proofs.Common.{◌≡◌, ℕ, ◌+◌, ◌-◌, ◌<◌, ◌==◌, ◌&&◌, cond, List, [], ◌∷◌, ◌++◌, length, All, sum_by, slice_get, Bool, true, false, Option, Some, None, IfSome, is_some, if◌then◌else◌, zero, suc, refl, ap, sym, ◌∙◌, subst, arith, length-append}
 use Rattle.std.specs.Option.{option_map_or}
 use Rattle.std.specs.Ordering.{eq_by_cmp}
 use Rattle.std.specs.FinMap as finite
 use Rattle.std.proofs.lemmas.Bool.{and_parts}
 use Rattle.std.proofs.lemmas.Bool.Decides.{nat_tests}
-use Rattle.std.proofs.lemmas.List.{length-replicate}
-use Rattle.std.proofs.lemmas.List.Elements.{All-head, All-tail, All-cons, All-push, All-replicate}
-use Rattle.std.proofs.lemmas.List.Folds.{sum_by-replicate}
+use Rattle.std.proofs.lemmas.List.Elements.{All-head, All-tail, All-cons, All-push}
 use Rattle.std.proofs.lemmas.List.Sums.{sum_by-cons, sum_by-append}
 use Rattle.rl_base.specs.Lists.{with_last}
 use Rattle.rl_value.specs.Fits.{RowsFit}
 use Rattle.rl_value.specs.Rows.{Rows, place_cmp}
 use Rattle.rl_value.specs.Tables.{Table, size_of, columns_of}
 use Rattle.rl_value.proofs.PlacesLemmas.{places_total}
-use Rattle.rl_txn.specs.Fits.{OpFits, TxnFits}
+use Rattle.rl_txn.specs.Fits.{TxnFits}
 use Rattle.rl_txn.specs.declared.op.Op.{Op}
-use Rattle.rl_events.specs.Fits.{EventFits, EventsFit, count_of, elections_of}
+use Rattle.rl_events.specs.Fits.{EventFits}
 use Rattle.rl_events.specs.declared.event.Event.{Event}
 use Rattle.rl_script.specs.declared.draft.Draft.{Draft}
 use Rattle.rl_script.specs.declared.draft.OpenTxn.{OpenTxn}
 use Rattle.rl_script.specs.declared.draft.Section.{Section}
 use Rattle.rl_script.specs.declared.draft.Section.TheVariants as section
-use Rattle.rl_script.specs.declared.settings.Settings.{Settings}
-use Rattle.rl_script.specs.Fits.{SettingsFit, RequestsFit, DraftFits, IsWithin, is_before_requests, is_events}
-use Rattle.rl_script.specs.Read.{is_settings, opening}
-use Rattle.rl_script.specs.Settings.{nodes_of, workers_of}
+use Rattle.rl_script.specs.Fits.{DraftFits, IsWithin, is_before_requests, is_events}
+use Rattle.rl_script.specs.Read.{opening}
 
 -- one more event counts as many as it is
 pub one_more_event : (f : Event → ℕ) (events : List Event) (event : Event) → sum_by f (events ++ event ∷ []) ≡ sum_by f events + f event
@@ -47,12 +43,6 @@ All-with_last P (list ∷ lists) zero x all here = All-cons (All P) (list ++ x �
 All-with_last P (list ∷ lists) (suc i) x all here = All-cons (All P) list (with_last lists i x) (All-head (All P) list lists all) (All-with_last P lists i x (All-tail (All P) list lists all) here)
 
 -- the first sections
-before_requests : (s : Section) → is_settings s ≡ true → is_before_requests s ≡ true
-before_requests section.Settings h = refl
-before_requests section.Tables h = refl
-before_requests section.Transactions h = h
-before_requests section.Events h = h
-
 before_events : (s : Section) → is_before_requests s ≡ true → is_events s ≡ false
 before_events section.Settings h = refl
 before_events section.Tables h = refl
@@ -75,34 +65,6 @@ if_none P current is = subst (λ (o : Option OpenTxn). IfSome o P) (sym is) tt
 
 no_element : {X : Type 0} (P : X → Type 0) → All P []
 no_element P = λ k d within. absurd (omega arith)
-
-no_requests : (tables : List Table) (workers : ℕ) (current : Option OpenTxn) (requests : ℕ) → current ≡ None → requests ≡ 0 → RequestsFit tables workers (replicate workers []) current requests
-no_requests tables workers current requests none zero_requests = record {
-  each = All-replicate (All (TxnFits tables)) workers [] (no_element (TxnFits tables));
-  one_list_each = length-replicate workers [];
-  count = ap (λ o. sum_by (λ (l : List (List Op)). length l) (replicate workers []) + (if is_some o then 1 else 0)) none ∙ empty_sum;
-  few = omega arith;
-  open_fits = if_none _ current none;
-}
-  where
-    empty_sum : sum_by (λ (l : List (List Op)). length l) (replicate workers []) + 0 ≡ requests
-    empty_sum = omega (arith, sum_by-replicate (λ (l : List (List Op)). length l) workers [])
-
--- a setting
-pub fits_with_setting : (draft : Draft) (s : Settings) (lists : List (List (List Op))) → DraftFits draft → is_settings draft.section ≡ true → SettingsFit s → lists ≡ replicate (workers_of s) [] → DraftFits (record draft { settings = s; lists = lists })
-fits_with_setting draft s lists f first fits is =
-    let early = before_requests draft.section first in
-    let none : draft.requests ≡ 0 = f.tables_first early in
-    let open_none : draft.current ≡ None = none_open draft.current (sum_by (λ l. length l) draft.lists) (f.requests.count ∙ none) in
-    let no_events : draft.events ≡ [] = f.events_last (before_events draft.section early) in
-    record {
-      settings = fits;
-      rows = f.rows;
-      requests = rw is (no_requests draft.schema (workers_of s) draft.current draft.requests open_none none);
-      tables_first = f.tables_first;
-      events = record { each = rw no_events (λ k d within. absurd (omega arith)); counted = f.events.counted; elections = f.events.elections };
-      events_last = f.events_last;
-    }
 
 -- the tables before one more are the same
 still : (tables : List Table) (x : Table) (t : ℕ) → t < length tables → slice_get (tables ++ x ∷ []) t ≡ slice_get tables t
@@ -170,23 +132,6 @@ fits_with_row draft t k cells rows f early there within all is = record {
   events_last = λ h. f.events_last (before_events draft.section early);
 }
 
--- a transaction begins
-pub fits_begun : (draft : Draft) (worker : ℕ) → DraftFits draft → draft.current ≡ None → is_events draft.section ≡ false → draft.requests ≢ 8192 → IsWithin 1 (length draft.lists) worker → DraftFits (record draft { section = section.Transactions; requests = draft.requests + 1; current = Some (record { worker = worker; txn = [] }) })
-fits_begun draft worker f none no_events room within = record {
-  settings = f.settings;
-  rows = f.rows;
-  requests = record {
-    each = f.requests.each;
-    one_list_each = f.requests.one_list_each;
-    count = let before : sum_by (λ l. length l) draft.lists + 0 ≡ draft.requests = rw none at f.requests.count in omega arith;
-    few = omega (arith, f.requests.few);
-    open_fits = (record { each = λ k d in_none. absurd (omega arith); few = omega arith }, within);
-  };
-  tables_first = λ h. absurd (let e : false ≡ true = h in cc);
-  events = f.events;
-  events_last = λ h. f.events_last no_events;
-}
-
 -- the open transaction becomes a request
 pub fits_ended : (draft : Draft) (current : OpenTxn) (lists : List (List (List Op))) → draft.current ≡ Some current → lists ≡ with_last draft.lists (current.worker - 1) current.txn → DraftFits draft → DraftFits (record draft { lists = lists; current = None })
 fits_ended draft current lists is more f =
@@ -207,47 +152,6 @@ fits_ended draft current lists is more f =
       events = f.events;
       events_last = f.events_last;
     }
-
--- one more op of the open transaction
-pub fits_with_op : (draft : Draft) (current : OpenTxn) (op : Op) → draft.current ≡ Some current → length current.txn ≢ 64 → OpFits draft.schema op → DraftFits draft → DraftFits (record draft { current = Some (record current { txn = current.txn ++ op ∷ [] }) })
-fits_with_op draft current op is few fits f =
-    let now = rw is at f.requests.open_fits in
-    record {
-      settings = f.settings;
-      rows = f.rows;
-      requests = record {
-        each = f.requests.each;
-        one_list_each = f.requests.one_list_each;
-        count = rw is at f.requests.count;
-        few = f.requests.few;
-        open_fits = (record { each = All-push (OpFits draft.schema) current.txn op now.0.each fits; few = omega (arith, length-append current.txn (op ∷ []), now.0.few) }, now.1);
-      };
-      tables_first = f.tables_first;
-      events = f.events;
-      events_last = f.events_last;
-    }
-
--- the events begin
-pub fits_in_events : (draft : Draft) → DraftFits draft → DraftFits (record draft { section = section.Events })
-fits_in_events draft f = record {
-  settings = f.settings;
-  rows = f.rows;
-  requests = f.requests;
-  tables_first = λ h. absurd (let e : false ≡ true = h in cc);
-  events = f.events;
-  events_last = λ h. absurd (let e : true ≡ false = h in cc);
-}
-
--- one more event
-pub fits_with_event : (draft : Draft) (event : Event) (events : List Event) → DraftFits draft → is_events draft.section ≡ true → EventFits (nodes_of draft.settings) (workers_of draft.settings) event → events ≡ draft.events ++ event ∷ [] → sum_by count_of events ≤ 100000 → sum_by elections_of events ≤ 64 → DraftFits (record draft { events = events })
-fits_with_event draft event events f last fits is counted elections = record {
-  settings = f.settings;
-  rows = f.rows;
-  requests = f.requests;
-  tables_first = f.tables_first;
-  events = record { each = rw is (All-push (EventFits (nodes_of draft.settings) (workers_of draft.settings)) draft.events event f.events.each fits); counted = counted; elections = elections };
-  events_last = λ h. absurd (let e : true ≡ false = sym last ∙ h in cc);
-}
 
 -- before all lines
 pub fits_opening : (draft : Draft) → draft ≡ opening → DraftFits draft

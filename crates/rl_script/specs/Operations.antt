@@ -1,7 +1,6 @@
 -- What the line of an op says, without its first word.
-use Rattle.std.specs.Prelude.{ℕ, ◌-◌, ◌&&◌, List, [], ◌∷◌, ◌++◌, length, ◌==◌, nat_le, Some, None, Result, Ok, Err, if◌then◌else◌}
+use Rattle.std.specs.Prelude.{ℕ, ◌-◌, ◌&&◌, List, [], ◌∷◌, length, ◌==◌, nat_le, Some, None, Result, Ok, Err, if◌then◌else◌}
 use Rattle.rl_value.specs.Tables.{Table, table_named, columns_of}
-use Rattle.rl_txn.specs.declared.op.Operand.{Operand}
 use Rattle.rl_txn.specs.declared.op.Op.{Op}
 use Rattle.rl_txn.specs.declared.op.Op.TheVariants as op
 use Rattle.rl_events.specs.declared.kind.Kind.{Kind}

@@ -13,7 +13,6 @@ use Rattle.rl_events.specs.Text.{lines_of, words_of, is_printable}
 use Rattle.rl_events.specs.Words.{◌>>=◌, number, within}
 use Rattle.rl_events.specs.declared.event.Event.{Event}
 use Rattle.rl_events.specs.declared.line.EventWord.{EventWord}
-use Rattle.rl_events.specs.declared.kind.Kind.{Kind}
 use Rattle.rl_events.specs.declared.kind.Kind.TheVariants.{Byte, Header, Word, Order, Count, Name, Duplicate, Unended}
 use Rattle.rl_script.specs.declared.draft.Section.{Section}
 use Rattle.rl_script.specs.declared.draft.Section.TheVariants as section

@@ -1,4 +1,4 @@
-use Rattle.std.proofs.Common.{sym, ◌∙◌, arith, rules, length-append, ap, length, [], ◌∷◌}
+use Rattle.std.proofs.Common.{sym, ◌∙◌, arith, length-append, [], ◌∷◌}
 use Rattle.std.proofs.lemmas.List.Elements.{All-push}
 use Rattle.rl_txn.specs.Fits.{OperandFits}
 use Rattle.rl_script.specs.Words.{operand}

@@ -1,4 +1,4 @@
-use Rattle.std.proofs.Common.{◌≡◌, ◌<◌, length, arith, ◌∙◌, ap}
+use Rattle.std.proofs.Common.{◌≡◌, ◌<◌, length, arith, ap}
 use Rattle.rl_value.specs.Tables.{size_of, columns_of}
 use Rattle.rl_script.proofs.FitsLemmas.{fits_with_row}
 use Rattle.rl_script.proofs.draft.Draft.row.Goals as goal
