@@ -68,25 +68,34 @@ const FAULTS: [(&str, u32, Kind); 45] = [
     ("rolis 1\n# a comment\ntxn 1\nout 1", 5, Kind::Unended),
 ];
 
-/// A line that is repeated until a limit is passed: the text before it, the line, how often it
-/// fits, the limit and its value.
-const LIMITS: [(&str, &str, u32, LimitName, u32); 4] = [
+/// Texts that go on with some lines, how often these are repeated, and the first line at which a
+/// limit is passed, its name and its value.
+const LIMITS: [(&str, &str, usize, u32, LimitName, u32); 4] = [
     (
         "rolis 1\nevents\n",
         "elect 1\n",
-        64,
+        65,
+        67,
         LimitName::Elections,
         64,
     ),
     (
         "rolis 1\nevents\n",
         "random 1 50000\n",
-        2,
+        3,
+        5,
         LimitName::Events,
         100000,
     ),
-    ("rolis 1\ntxn 1\n", "out 1\n", 64, LimitName::Ops, 64),
-    ("rolis 1\n", "txn 1\nend\n", 8192, LimitName::Requests, 8192),
+    ("rolis 1\ntxn 1\n", "out 1\n", 65, 67, LimitName::Ops, 64),
+    (
+        "rolis 1\n",
+        "txn 1\nend\n",
+        8193,
+        16386,
+        LimitName::Requests,
+        8192,
+    ),
 ];
 
 #[test]
@@ -110,16 +119,13 @@ fn tables_pass_limits(rt: HostRuntime) -> Result<(), Fail> {
 
 #[test]
 fn limits_are_passed_by_one_more(rt: HostRuntime) -> Result<(), Fail> {
-    for (front, more, times, name, limit) in LIMITS {
+    for (front, more, times, line, name, limit) in LIMITS {
         let mut text = String::from_str(rt.alloc(), front)?;
         for _ in 0..times {
             text.push_str(more)?;
         }
-        let lines = text.as_str().lines().count() as u32;
-        text.push_str(more)?;
         assert!(rt; text.len() < 1000000);
         let passed = parse(rt.alloc(), text.as_bytes()).err();
-        let line = lines + 1;
         assert_eq!(rt;
             passed,
             Some(ParseError::Limit { line, name, limit }),
