@@ -3,6 +3,7 @@
 ghost use Rattle.std.specs.Prelude.{◌≡◌, ◌<◌, ◌≤◌, ◌∷◌, ◌==◌, length, map, take, drop, IfOk, IfSome, IfNone, position, true, false, if◌then◌else◌};
 ghost use Rattle.rl_events.specs.Text.{lines_of, words_of, is_printable};
 
+use rl_base::slices::rest_from;
 use std::alloc::{AllocError, Global};
 
 /// The words of a line, which are separated by one or more spaces.
@@ -54,14 +55,6 @@ fn line_end(text: &[u8]) -> Option<usize>
     ensures { result ≡ position (λ b. b == 10) text.now }
 {
     text.iter().position(|b| *b == b'\n')
-}
-
-/// The bytes from a place on.
-pub fn rest_from(bytes: &[u8], at: usize) -> &[u8]
-    requires { at ≤ length bytes.now }
-    ensures { result.now ≡ drop at bytes.now }
-{
-    &bytes[at..]
 }
 
 /// The text before the first space, and the text after it. Without a space nothing is after it.

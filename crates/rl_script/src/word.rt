@@ -4,8 +4,8 @@ ghost use Rattle.std.specs.Prelude.{◌≡◌, ◌<◌, IfOk, IfSome};
 ghost use Rattle.rl_txn.specs.Fits.{OperandFits};
 ghost use Rattle.rl_script.specs.Words.{register_of, register, operand, relation};
 
+use rl_base::slices::rest_from;
 use rl_events::kind::Kind;
-use rl_events::text::rest_from;
 use rl_events::word::number_of;
 use rl_txn::op::{Operand, Rel};
 
