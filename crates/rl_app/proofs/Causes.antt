@@ -1,24 +1,38 @@
 -- What follows from how a call was served.
-use Rattle.std.proofs.Common.{◌≡◌, ◌≢◌, ℕ, ◌<◌, ◌≤◌, ◌⊎◌, inl, inr, false, cond, List, length, Option, Some, None, IfSome, MatchOption, is_some, nat_lt, refl, ap, sym, ◌∙◌, subst, arith}
+use Rattle.std.proofs.Common.{◌≡◌, ◌≢◌, ℕ, ◌<◌, ◌≤◌, ◌⊎◌, inl, inr, false, cond, List, length, Option, Some, None, IfSome, Result, Ok, Err, nat_lt, refl, ap, sym, ◌∙◌, subst, arith}
 use Rattle.std.specs.Io.KnownBytes.{append_known}
 use Rattle.std.proofs.lemmas.Bool.Decides.{nat_tests}
-use Rattle.rl_script.specs.Read.{script_in}
-use Rattle.rl_script.specs.declared.fault.Kind.TheVariants.{Later}
+use Rattle.rl_base.specs.declared.limit.LimitName.{LimitName}
+use Rattle.rl_events.specs.declared.kind.Kind.{Kind}
+use Rattle.rl_script.specs.Read.{read}
+use Rattle.rl_script.specs.declared.fault.Problem.{Problem}
+use Rattle.rl_script.specs.declared.fault.Problem.TheVariants.{Fault, Limit}
 use Rattle.rl_script.specs.declared.script.Script.{Script}
-use Rattle.rl_app.specs.Serial.{IsReport, Answers, Reports, Faults, status_of}
-use Rattle.rl_app.specs.Serve.{input_limit, fault_line, limit_line, read_fault_line, memory_line, Wrote, WroteFront, Means, Delivers}
+use Rattle.rl_app.specs.Serial.{IsReport, Refuses, AnswersRead, Answers, Reports, Faults, Limits, status_of_read, status_of}
+use Rattle.rl_app.specs.Serve.{input_limit, input_limit_line, fault_line, limit_line, read_fault_line, memory_line, Wrote, WroteFront, Means, Delivers}
 
 -- a call of `serial` was served: what it meant to write, and what was written
 abbrev pub Served : Option (List ℕ) → Option (List ℕ) → Type 0 → Option (List ℕ) → Option (List ℕ) → Type 0 → ℕ → Type 0
 Served left_old left_new read_rose held_old held_new write_rose result =
     (code : ℕ) × (text : List ℕ) × Means Answers left_old left_new read_rose code text × Delivers held_old held_new write_rose code text result
 
-answered : (input text : List ℕ) (code : ℕ) → Answers input code text → ((code ≡ 3) × (text ≡ fault_line 0 Later) × (script_in input ≡ None)) ⊎ ((code ≡ 0) × ((script : Script) × (script_in input ≡ Some script) × IsReport script text))
-answered input text code =
-    elim (script_in input) as (λ o. MatchOption o ((code ≡ 3) × (text ≡ fault_line 0 Later)) (λ script. (code ≡ 0) × IsReport script text) → ((code ≡ 3) × (text ≡ fault_line 0 Later) × (o ≡ None)) ⊎ ((code ≡ 0) × ((script : Script) × (o ≡ Some script) × IsReport script text))) [
-      | None ↦ λ a. inl (a.0, a.1, refl)
-      | Some script ↦ λ a. inr (a.0, (script, refl, a.1))
-    ]
+-- what an answer is: the report of a script, or the line of a fault, or that of a limit
+abbrev pub Kinds : List ℕ → Result Script (ℕ × Problem) → ℕ → List ℕ → Type 0
+Kinds input said code text =
+    ((code ≡ 0) × ((script : Script) × (said ≡ Ok script) × IsReport script text))
+    ⊎ ((code ≡ 3) × ((line : ℕ) × (kind : Kind) × (said ≡ Err (line, Fault kind)) × (text ≡ fault_line line kind)))
+    ⊎ ((code ≡ 4) × ((line : ℕ) × (name : LimitName) × (limit : ℕ) × (said ≡ Err (line, Limit name limit)) × (text ≡ limit_line name limit)))
+
+answered : (input text : List ℕ) (code : ℕ) → Answers input code text → Kinds input (read input) code text
+answered input text code = go (read input)
+  where
+    refused : (line : ℕ) (problem : Problem) → Refuses line problem code text → Kinds input (Err (line, problem)) code text
+    refused line (Fault kind) a = inr (inl (a.0, (line, kind, refl, a.1)))
+    refused line (Limit name limit) a = inr (inr (a.0, (line, name, limit, refl, a.1)))
+
+    go : (said : Result Script (ℕ × Problem)) → AnswersRead said code text → Kinds input said code text
+    go (Ok script) a = inl (a.0, (script, refl, a.1))
+    go (Err problem) a = refused problem.0 problem.1 a
 
 module _ (left_old left_new : Option (List ℕ)) (read_rose : Type 0) (held_old held_new : Option (List ℕ)) (write_rose : Type 0) (result : ℕ) (served : Served left_old left_new read_rose held_old held_new write_rose result) where
   -- a call below status 6 wrote what it meant whole
@@ -36,9 +50,10 @@ module _ (left_old left_new : Option (List ℕ)) (read_rose : Type 0) (held_old 
       from text (inl fault) wrote = absurd (omega arith)
       from text (inr (inl limit)) wrote = absurd (omega arith)
       from text (inr (inr (inl memory))) wrote = absurd (omega arith)
-      from text (inr (inr (inr (input, read, small, answers)))) wrote = elim (answered input text result answers) [
-        | inl refused ↦ absurd (omega arith)
-        | inr done ↦ record { input = input; read = read; script = done.1.0; is_script = done.1.1; text = text; report = done.1.2; wrote = wrote }
+      from text (inr (inr (inr (input, was_read, small, answers)))) wrote = elim (answered input text result answers) [
+        | inl done ↦ record { input = input; was_read = was_read; script = done.1.0; is_script = done.1.1; text = text; report = done.1.2; wrote = wrote }
+        | inr (inl fault) ↦ absurd (omega arith)
+        | inr (inr limit) ↦ absurd (omega arith)
       ]
 
   pub faulted : result ≡ 3 → Faults left_old left_new held_old held_new
@@ -48,22 +63,24 @@ module _ (left_old left_new : Option (List ℕ)) (read_rose : Type 0) (held_old 
       from text (inl fault) wrote = absurd (omega arith)
       from text (inr (inl limit)) wrote = absurd (omega arith)
       from text (inr (inr (inl memory))) wrote = absurd (omega arith)
-      from text (inr (inr (inr (input, read, small, answers)))) wrote = elim (answered input text result answers) [
-        | inl refused ↦ record { input = input; read = read; no_script = refused.2; wrote = wrote ∙ ap (append_known held_old) refused.1 }
-        | inr done ↦ absurd (omega arith)
+      from text (inr (inr (inr (input, was_read, small, answers)))) wrote = elim (answered input text result answers) [
+        | inl done ↦ absurd (omega arith)
+        | inr (inl fault) ↦ record { input = input; was_read = was_read; line = fault.1.0; kind = fault.1.1; is_fault = fault.1.2; wrote = wrote ∙ ap (append_known held_old) fault.1.3 }
+        | inr (inr limit) ↦ absurd (omega arith)
       ]
 
   -- the statuses of the one-line answers
-  pub limited : result ≡ 4 → IfSome left_old (λ left. input_limit < length left) × Wrote held_old held_new limit_line
+  pub limited : result ≡ 4 → Limits left_old left_new held_old held_new
   limited is = from (meant (omega arith)).0 (meant (omega arith)).1.0 (meant (omega arith)).1.1
     where
-      from : (text : List ℕ) → Means Answers left_old left_new read_rose result text → Wrote held_old held_new text → IfSome left_old (λ left. input_limit < length left) × Wrote held_old held_new limit_line
+      from : (text : List ℕ) → Means Answers left_old left_new read_rose result text → Wrote held_old held_new text → Limits left_old left_new held_old held_new
       from text (inl fault) wrote = absurd (omega arith)
-      from text (inr (inl limit)) wrote = (limit.0, wrote ∙ ap (append_known held_old) limit.2)
+      from text (inr (inl limit)) wrote = inl (record { long = limit.0; wrote = wrote ∙ ap (append_known held_old) limit.2 })
       from text (inr (inr (inl memory))) wrote = absurd (omega arith)
-      from text (inr (inr (inr (input, read, small, answers)))) wrote = elim (answered input text result answers) [
-        | inl refused ↦ absurd (omega arith)
-        | inr done ↦ absurd (omega arith)
+      from text (inr (inr (inr (input, was_read, small, answers)))) wrote = elim (answered input text result answers) [
+        | inl done ↦ absurd (omega arith)
+        | inr (inl fault) ↦ absurd (omega arith)
+        | inr (inr limit) ↦ inr (record { input = input; was_read = was_read; line = limit.1.0; name = limit.1.1; limit = limit.1.2; is_limit = limit.1.3; wrote = wrote ∙ ap (append_known held_old) limit.1.4 })
       ]
 
   pub read_failed : result ≡ 5 → read_rose × Wrote held_old held_new read_fault_line
@@ -73,9 +90,10 @@ module _ (left_old left_new : Option (List ℕ)) (read_rose : Type 0) (held_old 
       from text (inl fault) wrote = (fault.0, wrote ∙ ap (append_known held_old) fault.2)
       from text (inr (inl limit)) wrote = absurd (omega arith)
       from text (inr (inr (inl memory))) wrote = absurd (omega arith)
-      from text (inr (inr (inr (input, read, small, answers)))) wrote = elim (answered input text result answers) [
-        | inl refused ↦ absurd (omega arith)
-        | inr done ↦ absurd (omega arith)
+      from text (inr (inr (inr (input, was_read, small, answers)))) wrote = elim (answered input text result answers) [
+        | inl done ↦ absurd (omega arith)
+        | inr (inl fault) ↦ absurd (omega arith)
+        | inr (inr limit) ↦ absurd (omega arith)
       ]
 
   pub wanted_memory : result ≡ 7 → Wrote held_old held_new memory_line
@@ -85,9 +103,10 @@ module _ (left_old left_new : Option (List ℕ)) (read_rose : Type 0) (held_old 
       from text (inl fault) wrote = absurd (omega arith)
       from text (inr (inl limit)) wrote = absurd (omega arith)
       from text (inr (inr (inl memory))) wrote = wrote ∙ ap (append_known held_old) memory.1
-      from text (inr (inr (inr (input, read, small, answers)))) wrote = elim (answered input text result answers) [
-        | inl refused ↦ absurd (omega arith)
-        | inr done ↦ absurd (omega arith)
+      from text (inr (inr (inr (input, was_read, small, answers)))) wrote = elim (answered input text result answers) [
+        | inl done ↦ absurd (omega arith)
+        | inr (inl fault) ↦ absurd (omega arith)
+        | inr (inr limit) ↦ absurd (omega arith)
       ]
 
   -- at status 6 a write failed, and a front of some text that was meant is written
@@ -98,9 +117,10 @@ module _ (left_old left_new : Option (List ℕ)) (read_rose : Type 0) (held_old 
       codes_of code text (inl fault) = inr (inr (inr (inl fault.1)))
       codes_of code text (inr (inl limit)) = inr (inr (inl limit.1))
       codes_of code text (inr (inr (inl memory))) = inr (inr (inr (inr memory.0)))
-      codes_of code text (inr (inr (inr (input, read, small, answers)))) = elim (answered input text code answers) [
-        | inl refused ↦ inr (inl refused.0)
-        | inr done ↦ inl done.0
+      codes_of code text (inr (inr (inr (input, was_read, small, answers)))) = elim (answered input text code answers) [
+        | inl done ↦ inl done.0
+        | inr (inl fault) ↦ inr (inl fault.0)
+        | inr (inr limit) ↦ inr (inr (inl limit.0))
       ]
 
       from : Served left_old left_new read_rose held_old held_new write_rose result → write_rose × ((code : ℕ) × (text : List ℕ) × (Means Answers left_old left_new read_rose code text × WroteFront held_old held_new text))
@@ -120,19 +140,17 @@ module _ (left_old left_new : Option (List ℕ)) (read_rose : Type 0) (held_old 
       status_too_long : (input : List ℕ) → input_limit < length input → status_of input ≡ 4
       status_too_long input long = grind (arith, nat_tests)
 
-      status_refused : (input : List ℕ) → length input ≤ input_limit → script_in input ≡ None → status_of input ≡ 3
-      status_refused input small none = let short : nat_lt input_limit (length input) ≡ false = grind (arith, nat_tests) in ap (λ b. cond b 4 (cond (is_some (script_in input)) 0 3)) short ∙ ap (λ o. cond (is_some o) 0 3) none
-
-      status_done : (input : List ℕ) (script : Script) → length input ≤ input_limit → script_in input ≡ Some script → status_of input ≡ 0
-      status_done input script small some = let short : nat_lt input_limit (length input) ≡ false = grind (arith, nat_tests) in ap (λ b. cond b 4 (cond (is_some (script_in input)) 0 3)) short ∙ ap (λ o. cond (is_some o) 0 3) some
+      status_read : (input : List ℕ) → length input ≤ input_limit → status_of input ≡ status_of_read (read input)
+      status_read input small = let short : nat_lt input_limit (length input) ≡ false = grind (arith, nat_tests) in ap (λ b. cond b 4 (status_of_read (read input))) short
 
       judged : (input text : List ℕ) (code : ℕ) → result ≡ code → Means Answers (Some input) left_new read_rose code text → (result ≡ status_of input) ⊎ (result ≡ 5) ⊎ (result ≡ 6) ⊎ (result ≡ 7)
       judged input text code is (inl fault) = inr (inl (is ∙ fault.1))
       judged input text code is (inr (inl limit)) = inl (is ∙ limit.1 ∙ sym (status_too_long input limit.0))
       judged input text code is (inr (inr (inl memory))) = inr (inr (inr (is ∙ memory.0)))
-      judged input text code is (inr (inr (inr (read_input, read, small, answers)))) = elim (answered read_input text code answers) [
-        | inl refused ↦ inl (is ∙ refused.0 ∙ sym (status_refused read_input small refused.2) ∙ ap status_of (sym read.0))
-        | inr done ↦ inl (is ∙ done.0 ∙ sym (status_done read_input done.1.0 small done.1.1) ∙ ap status_of (sym read.0))
+      judged input text code is (inr (inr (inr (read_input, was_read, small, answers)))) = elim (answered read_input text code answers) [
+        | inl done ↦ inl (is ∙ done.0 ∙ sym (status_read read_input small ∙ ap status_of_read done.1.1) ∙ ap status_of (sym was_read.0))
+        | inr (inl fault) ↦ inl (is ∙ fault.0 ∙ sym (status_read read_input small ∙ ap status_of_read fault.1.2) ∙ ap status_of (sym was_read.0))
+        | inr (inr limit) ↦ inl (is ∙ limit.0 ∙ sym (status_read read_input small ∙ ap status_of_read limit.1.3) ∙ ap status_of (sym was_read.0))
       ]
 
       from : (left : Option (List ℕ)) → left_old ≡ left → Served left_old left_new read_rose held_old held_new write_rose result → IfSome left (λ input. (result ≡ status_of input) ⊎ (result ≡ 5) ⊎ (result ≡ 6) ⊎ (result ≡ 7))
@@ -147,9 +165,10 @@ module _ (left_old left_new : Option (List ℕ)) (read_rose : Type 0) (held_old 
       meant_one code text is (inl fault) = inr (inr (inr (inl (is ∙ fault.1))))
       meant_one code text is (inr (inl limit)) = inr (inr (inl (is ∙ limit.1)))
       meant_one code text is (inr (inr (inl memory))) = inr (inr (inr (inr (inr (is ∙ memory.0)))))
-      meant_one code text is (inr (inr (inr (input, read, small, answers)))) = elim (answered input text code answers) [
-        | inl refused ↦ inr (inl (is ∙ refused.0))
-        | inr done ↦ inl (is ∙ done.0)
+      meant_one code text is (inr (inr (inr (input, was_read, small, answers)))) = elim (answered input text code answers) [
+        | inl done ↦ inl (is ∙ done.0)
+        | inr (inl fault) ↦ inr (inl (is ∙ fault.0))
+        | inr (inr limit) ↦ inr (inr (inl (is ∙ limit.0)))
       ]
 
       from : Served left_old left_new read_rose held_old held_new write_rose result → (result ≡ 0) ⊎ (result ≡ 3) ⊎ (result ≡ 4) ⊎ (result ≡ 5) ⊎ (result ≡ 6) ⊎ (result ≡ 7)

@@ -2,8 +2,10 @@
 use Rattle.std.specs.Prelude.{◌≡◌, ℕ, ◌<◌, ◌≤◌, ◌⊎◌, List, [], ◌∷◌, ◌++◌, length, take, codes, Option, Some, IfSome}
 use Rattle.std.specs.Io.KnownBytes.{append_known}
 use Rattle.std.specs.Fmt.{decimal}
-use Rattle.rl_script.specs.declared.fault.Kind.{Kind}
-use Rattle.rl_script.specs.declared.fault.Kind.TheVariants.{Byte, Header, Word, Order, Count, Number, Range, Name, Duplicate, UnknownTable, Register, Relation, Unended, Later}
+use Rattle.rl_base.specs.declared.limit.LimitName.{LimitName}
+use Rattle.rl_base.specs.declared.limit.LimitName.TheVariants as limits
+use Rattle.rl_events.specs.declared.kind.Kind.{Kind}
+use Rattle.rl_events.specs.declared.kind.Kind.TheVariants.{Byte, Header, Word, Order, Count, Number, Range, Name, Duplicate, UnknownTable, Register, Relation, Unended}
 
 -- the most bytes that a command reads
 abbrev pub input_limit : ℕ
@@ -23,7 +25,19 @@ kind_text UnknownTable = codes "UnknownTable"
 kind_text Register = codes "Register"
 kind_text Relation = codes "Relation"
 kind_text Unended = codes "Unended"
-kind_text Later = codes "Later"
+
+abbrev pub limit_name : LimitName → List ℕ
+limit_name limits.Nodes = codes "nodes"
+limit_name limits.Workers = codes "workers"
+limit_name limits.Tables = codes "tables"
+limit_name limits.Records = codes "records"
+limit_name limits.Requests = codes "requests"
+limit_name limits.Ops = codes "ops"
+limit_name limits.Events = codes "events"
+limit_name limits.Elections = codes "elections"
+limit_name limits.Slots = codes "slots"
+limit_name limits.Bytes = codes "bytes"
+limit_name limits.Asks = codes "asks"
 
 -- the line of each status
 abbrev pub usage_line : List ℕ
@@ -32,8 +46,11 @@ usage_line = codes "usage: rolis serial, steps, sim, live, check, gen script S N
 abbrev pub fault_line : ℕ → Kind → List ℕ
 fault_line line kind = codes "fault line " ++ decimal line ++ 32 ∷ kind_text kind ++ 10 ∷ []
 
-abbrev pub limit_line : List ℕ
-limit_line = codes "limit input 4194304\n"
+abbrev pub limit_line : LimitName → ℕ → List ℕ
+limit_line name limit = codes "limit " ++ limit_name name ++ 32 ∷ decimal limit ++ 10 ∷ []
+
+abbrev pub input_limit_line : List ℕ
+input_limit_line = codes "limit input 4194304\n"
 
 abbrev pub read_fault_line : List ℕ
 read_fault_line = codes "read fault\n"
@@ -57,7 +74,7 @@ WroteFront old new text = (n : ℕ) × (new ≡ append_known old (take n text))
 abbrev pub Means : (List ℕ → ℕ → List ℕ → Type 0) → Option (List ℕ) → Option (List ℕ) → Type 0 → ℕ → List ℕ → Type 0
 Means Answers old new rose code text =
     (rose × (code ≡ 5) × (text ≡ read_fault_line))
-    ⊎ (IfSome old (λ left. input_limit < length left) × (code ≡ 4) × (text ≡ limit_line))
+    ⊎ (IfSome old (λ left. input_limit < length left) × (code ≡ 4) × (text ≡ input_limit_line))
     ⊎ ((code ≡ 7) × (text ≡ memory_line))
     ⊎ ((input : List ℕ) × WasRead old new input × (length input ≤ input_limit) × Answers input code text)
 

@@ -1,10 +1,10 @@
 //! The top call: which command some words are.
 
-ghost use Rattle.std.specs.Prelude.{◌≡◌, ◌<◌, ◌⊎◌, ℕ, List, IfSome, length, true, false};
+ghost use Rattle.std.specs.Prelude.{◌≡◌, ◌⊎◌, ℕ, List, IfSome, true, false};
 ghost use Rattle.rl_io.specs.Faults.{Rose};
 ghost use Rattle.rl_app.specs.Command.{is_serial};
-ghost use Rattle.rl_app.specs.Serial.{Answers, Reports, Faults, status_of};
-ghost use Rattle.rl_app.specs.Serve.{input_limit, usage_line, read_fault_line, limit_line, memory_line, Means, Wrote, WroteFront};
+ghost use Rattle.rl_app.specs.Serial.{Answers, Reports, Faults, Limits, status_of};
+ghost use Rattle.rl_app.specs.Serve.{usage_line, read_fault_line, memory_line, Means, Wrote, WroteFront};
 
 use crate::serial::serial;
 use crate::serve::{Status, deliver};
@@ -20,9 +20,10 @@ const USAGE: &str =
 /// other words are status 2 (6 where its line can't be written).
 ///
 /// Status 0 with the report; 2 where the words are no command, and then nothing is read; 3 where
-/// the input is no script; 4 where it has more than 4,194,304 bytes; 5 where a read failed; 6
-/// where a write failed, with a front of the text written; 7 where there was no memory. At 2, 3,
-/// 4, 5 and 7 the one line of the status is written.
+/// the input breaks a rule of the language; 4 where it has more than 4,194,304 bytes or passes a
+/// limit of the language; 5 where a read failed; 6 where a write failed, with a front of the text
+/// written; 7 where there was no memory. At 2, 3, 4, 5 and 7 the one line of the status is
+/// written.
 pub fn rolis<S: Source, K: Sink>(
     alloc: Global,
     words: &[String],
@@ -33,8 +34,7 @@ pub fn rolis<S: Source, K: Sink>(
     ensures usage { result.code ≡ 2 → is_serial words.now ≡ false }
     ensures usage_line { result.code ≡ 2 → Wrote (K.held sink.old) (K.held sink.new) usage_line }
     ensures fault { result.code ≡ 3 → Faults (S.left source.old) (S.left source.new) (K.held sink.old) (K.held sink.new) }
-    ensures limit { result.code ≡ 4 → IfSome (S.left source.old) (λ left. input_limit < length left) }
-    ensures limit_line { result.code ≡ 4 → Wrote (K.held sink.old) (K.held sink.new) limit_line }
+    ensures limit { result.code ≡ 4 → Limits (S.left source.old) (S.left source.new) (K.held sink.old) (K.held sink.new) }
     ensures read_fault { result.code ≡ 5 → Rose (S.faults source.old) (S.faults source.new) }
     ensures read_fault_line { result.code ≡ 5 → Wrote (K.held sink.old) (K.held sink.new) read_fault_line }
     ensures write_fault { result.code ≡ 6 → Rose (K.faults sink.old) (K.faults sink.new) }

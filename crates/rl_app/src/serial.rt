@@ -4,11 +4,11 @@ ghost use Rattle.std.specs.Prelude.{◌≡◌, ◌≢◌, ◌<◌, ◌≤◌, �
 ghost use Rattle.std.specs.String.{string_bytes};
 ghost use Rattle.rl_io.specs.Faults.{Rose};
 ghost use Rattle.rl_txn.specs.Fits.{ListsFit};
-ghost use Rattle.rl_app.specs.Serial.{IsReport, Answers, Reports, Faults, status_of};
-ghost use Rattle.rl_app.specs.Serve.{input_limit, read_fault_line, limit_line, memory_line, Means, Delivers, Wrote, WroteFront};
+ghost use Rattle.rl_app.specs.Serial.{IsReport, Answers, Reports, Faults, Limits, status_of};
+ghost use Rattle.rl_app.specs.Serve.{input_limit, read_fault_line, memory_line, Means, Delivers, Wrote, WroteFront};
 
 use crate::report::serial_report;
-use crate::serve::{INPUT_LIMIT, Status, deliver, fault_text};
+use crate::serve::{INPUT_LIMIT, Status, deliver, fault_text, limit_text};
 use rl_base::memory::Memory;
 use rl_io::sink::Sink;
 use rl_io::source::{ReadError, Source, read_all};
@@ -19,14 +19,14 @@ use std::alloc::Global;
 
 /// Reads a script and writes the report of its serial run.
 ///
-/// Status 0 with the report; 3 where the input is no script; 4 where it has more than 4,194,304
-/// bytes; 5 where a read failed; 6 where a write failed, with a front of the text written; 7 where
-/// there was no memory. At 3, 4, 5 and 7 the one line of the status is written.
+/// Status 0 with the report; 3 where the input breaks a rule of the language; 4 where it has more
+/// than 4,194,304 bytes or passes a limit of the language; 5 where a read failed; 6 where a write
+/// failed, with a front of the text written; 7 where there was no memory. At 3, 4, 5 and 7 the one
+/// line of the status is written.
 pub fn serial<S: Source, K: Sink>(alloc: Global, source: &mut S, sink: &mut K) -> Status
     ensures report { result.code ≡ 0 → Reports (S.left source.old) (S.left source.new) (K.held sink.old) (K.held sink.new) }
     ensures fault { result.code ≡ 3 → Faults (S.left source.old) (S.left source.new) (K.held sink.old) (K.held sink.new) }
-    ensures limit { result.code ≡ 4 → IfSome (S.left source.old) (λ left. input_limit < length left) }
-    ensures limit_line { result.code ≡ 4 → Wrote (K.held sink.old) (K.held sink.new) limit_line }
+    ensures limit { result.code ≡ 4 → Limits (S.left source.old) (S.left source.new) (K.held sink.old) (K.held sink.new) }
     ensures read_fault { result.code ≡ 5 → Rose (S.faults source.old) (S.faults source.new) }
     ensures read_fault_line { result.code ≡ 5 → Wrote (K.held sink.old) (K.held sink.new) read_fault_line }
     ensures write_fault { result.code ≡ 6 → Rose (K.faults sink.old) (K.faults sink.new) }
@@ -77,6 +77,9 @@ fn answer(alloc: Global, input: &[u8]) -> Result<(Status, String), Memory>
         Err(ParseError::Fault { line, kind }) => {
             Ok((Status { code: 3 }, fault_text(alloc, line, kind)?))
         }
+        Err(ParseError::Limit { name, limit, .. }) => {
+            Ok((Status { code: 4 }, limit_text(alloc, name, limit)?))
+        }
         Err(ParseError::Memory) => Err(Memory),
     }
 }
@@ -90,6 +93,7 @@ fn report(alloc: Global, script: Script) -> Result<(Status, String), Memory>
         schema,
         mut rows,
         lists,
+        ..
     } = script;
     let items = run_serially(alloc, &schema, &lists, &mut rows)?;
     let text = serial_report(alloc, &items, &schema, &rows)?;

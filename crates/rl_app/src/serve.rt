@@ -3,11 +3,12 @@
 ghost use Rattle.std.specs.Prelude.{◌≡◌, ◌≤◌, IfOk};
 ghost use Rattle.std.specs.String.{string_bytes};
 ghost use Rattle.rl_io.specs.Faults.{Rose};
-ghost use Rattle.rl_app.specs.Serve.{kind_text, fault_line, Delivers};
+ghost use Rattle.rl_app.specs.Serve.{kind_text, fault_line, limit_name, limit_line, Delivers};
 
+use rl_base::limit::LimitName;
 use rl_base::memory::Memory;
+use rl_events::kind::Kind;
 use rl_io::sink::{Sink, write_whole};
-use rl_script::fault::Kind;
 use std::alloc::Global;
 
 /// How a call ended: 0 where its output is written, 6 where a write failed and a front of its text
@@ -38,7 +39,6 @@ fn kind_name(kind: Kind) -> &'static str
         Kind::Register => "Register",
         Kind::Relation => "Relation",
         Kind::Unended => "Unended",
-        Kind::Later => "Later",
     }
 }
 
@@ -49,6 +49,35 @@ pub fn fault_text(alloc: Global, line: u32, kind: Kind) -> Result<String, Memory
     let mut text = format!(in alloc; "fault line {line} ")?;
     text.push_str(kind_name(kind))?;
     text.push_str("\n")?;
+    Ok(text)
+}
+
+/// The name of a limit, as it is printed.
+fn limit_name(name: LimitName) -> &'static str
+    ensures { result.now ≡ limit_name name }
+{
+    match name {
+        LimitName::Nodes => "nodes",
+        LimitName::Workers => "workers",
+        LimitName::Tables => "tables",
+        LimitName::Records => "records",
+        LimitName::Requests => "requests",
+        LimitName::Ops => "ops",
+        LimitName::Events => "events",
+        LimitName::Elections => "elections",
+        LimitName::Slots => "slots",
+        LimitName::Bytes => "bytes",
+        LimitName::Asks => "asks",
+    }
+}
+
+/// The line of a limit that is passed.
+pub fn limit_text(alloc: Global, name: LimitName, limit: u32) -> Result<String, Memory>
+    ensures { IfOk result (λ text. string_bytes text ≡ limit_line name limit) }
+{
+    let mut text = String::from_str(alloc, "limit ")?;
+    text.push_str(limit_name(name))?;
+    write!(&mut text, " {limit}\n")?;
     Ok(text)
 }
 

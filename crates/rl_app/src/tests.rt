@@ -59,7 +59,22 @@ fn scripts_have_their_reports(rt: HostRuntime) -> Result<(), Fail> {
             0,
             "rolis serial\nitems 2\nitem 1 2 1 1 declined 2\nitem 1 3 1 2 done\ntables\nrow t 3 1\n",
         ),
-        ("rolis 1\nrow x 0 1", 3, "fault line 0 Later\n"),
+        ("rolis 1\nrow x 0 1", 3, "fault line 2 UnknownTable\n"),
+        (
+            "rolis 1\ntable t 1 1\ntxn 1\nput t 0 1",
+            3,
+            "fault line 5 Unended\n",
+        ),
+        (
+            "rolis 1\ntable t 65536 1\ntable u 1 1",
+            4,
+            "limit records 65536\n",
+        ),
+        (
+            "rolis 1\nworkers 2\ntable t 3 1\nrow t 0 18446744073709551615\nrow t 2 2\ntxn 2\nscan t 0 3 0 r0\nout r0\nskip r0 eq 1 1\ndel t 2\ndel t 0\nhas t 0 r1\nout r1\nend\ntxn 1\nmul r0 3 4\nout r0\nend\nevents\nelect 1\nall",
+            0,
+            "rolis serial\nitems 2\nitem 1 2 1 1 done 12\nitem 1 3 2 1 done 1 0\ntables\nrow t 2 2\n",
+        ),
     ];
     for (input, code, output) in cases {
         let (status, held) = outcome(rt.alloc(), &["serial"], input.as_bytes(), 0, 0)?;

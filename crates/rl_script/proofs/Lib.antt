@@ -1,4 +1,2 @@
+pub mod Each
 pub mod FitsLemmas
-pub mod Lines
-pub mod Numbers
-pub mod Printable

@@ -3,5 +3,5 @@ pub mod Fits
 pub mod Lines
 pub mod Operations
 pub mod Read
-pub mod Text
+pub mod Settings
 pub mod Words

@@ -1,19 +1,14 @@
 -- What the line of an op says, without its first word.
-use Rattle.std.specs.Prelude.{ℕ, ◌-◌, ◌&&◌, List, [], ◌∷◌, ◌++◌, length, ◌==◌, nat_le, Some, None, Result, Ok, Err, if◌then◌else◌}
+use Rattle.std.specs.Prelude.{ℕ, ◌-◌, ◌&&◌, List, [], ◌∷◌, length, ◌==◌, nat_le, Some, None, Result, Ok, Err, if◌then◌else◌}
 use Rattle.rl_value.specs.Tables.{Table, table_named, columns_of}
-use Rattle.rl_txn.specs.declared.op.Operand.{Operand}
 use Rattle.rl_txn.specs.declared.op.Op.{Op}
 use Rattle.rl_txn.specs.declared.op.Op.TheVariants as op
-use Rattle.rl_script.specs.declared.fault.Kind.{Kind}
-use Rattle.rl_script.specs.declared.fault.Kind.TheVariants.{Count, UnknownTable}
+use Rattle.rl_events.specs.declared.kind.Kind.{Kind}
+use Rattle.rl_events.specs.declared.kind.Kind.TheVariants.{Count, UnknownTable}
 use Rattle.rl_script.specs.declared.line.OpWord.{OpWord}
 use Rattle.rl_script.specs.declared.line.OpWord.TheVariants as word
-use Rattle.rl_script.specs.Words.{within, register, operand, relation, or_fault}
-
-infixl 10 ◌>>=◌
-abbrev pub ◌>>=◌ : {A B E : Type 0} → Result A E → (A → Result B E) → Result B E
-(Ok x) >>= f = f x
-(Err e) >>= f = Err e
+use Rattle.rl_events.specs.Words.{◌>>=◌, or_fault, within}
+use Rattle.rl_script.specs.Words.{register, operand, relation}
 
 -- the number of a table that is declared
 abbrev pub known : List Table → List ℕ → Result ℕ Kind
@@ -26,10 +21,13 @@ table_for tables name count = elim (table_named name tables) [
   | None ↦ if nat_le 1 count && nat_le count 4 then Err UnknownTable else Err Count
 ]
 
--- the operands so far, and those that more words are
-unfoldable pub operands_onto : List Operand → List (List ℕ) → Result (List Operand) Kind
-operands_onto so_far [] = Ok so_far
-operands_onto so_far (word ∷ words) = operand word >>= λ a. operands_onto (so_far ++ a ∷ []) words
+-- what each of some words is
+unfoldable pub each_word : {A : Type 0} → (List ℕ → Result A Kind) → List (List ℕ) → Result (List A) Kind
+each_word read [] = Ok []
+each_word read (word ∷ words) = do
+  x ← read word
+  xs ← each_word read words
+  Ok (x ∷ xs)
 
 -- `set D A`
 unfoldable pub set_of : List ℕ → List ℕ → Result Op Kind
@@ -54,6 +52,14 @@ sub_of d a b = do
   b ← operand b
   Ok (op.Sub d a b)
 
+-- `mul D A B`
+unfoldable pub mul_of : List ℕ → List ℕ → List ℕ → Result Op Kind
+mul_of d a b = do
+  d ← register d
+  a ← operand a
+  b ← operand b
+  Ok (op.Mul d a b)
+
 -- `get T K C D`: C a column of the table
 unfoldable pub get_of : List Table → List ℕ → List ℕ → List ℕ → List ℕ → Result Op Kind
 get_of tables table key column d = do
@@ -63,13 +69,38 @@ get_of tables table key column d = do
   d ← register d
   Ok (op.Get t key c d)
 
+-- `has T K D`
+unfoldable pub has_of : List Table → List ℕ → List ℕ → List ℕ → Result Op Kind
+has_of tables table key d = do
+  t ← known tables table
+  key ← operand key
+  d ← register d
+  Ok (op.Has t key d)
+
 -- `put T K A0` up to the last column
 unfoldable pub put_of : List Table → List ℕ → List ℕ → List (List ℕ) → Result Op Kind
 put_of tables table key values = do
   t ← table_for tables table (length values)
   key ← operand key
-  values ← operands_onto [] values
+  values ← each_word operand values
   Ok (op.Put t key values)
+
+-- `del T K`
+unfoldable pub del_of : List Table → List ℕ → List ℕ → Result Op Kind
+del_of tables table key = do
+  t ← known tables table
+  key ← operand key
+  Ok (op.Del t key)
+
+-- `scan T K N C D`: C a column of the table
+unfoldable pub scan_of : List Table → List ℕ → List ℕ → List ℕ → List ℕ → List ℕ → Result Op Kind
+scan_of tables table key count column d = do
+  t ← known tables table
+  key ← operand key
+  n ← within 1 256 count
+  c ← within 0 (columns_of tables t - 1) column
+  d ← register d
+  Ok (op.Scan t key n c d)
 
 -- `need A REL B`
 unfoldable pub need_of : List ℕ → List ℕ → List ℕ → Result Op Kind
@@ -78,6 +109,15 @@ need_of a rel b = do
   rel ← relation rel
   b ← operand b
   Ok (op.Need a rel b)
+
+-- `skip A REL B N`
+unfoldable pub skip_of : List ℕ → List ℕ → List ℕ → List ℕ → Result Op Kind
+skip_of a rel b count = do
+  a ← operand a
+  rel ← relation rel
+  b ← operand b
+  n ← within 1 64 count
+  Ok (op.Skip a rel b n)
 
 -- `out A`
 unfoldable pub out_of : List ℕ → Result Op Kind
@@ -90,8 +130,13 @@ abbrev pub read_op : List Table → OpWord → List (List ℕ) → Result Op Kin
 read_op tables word.Set (d ∷ a ∷ []) = set_of d a
 read_op tables word.Add (d ∷ a ∷ b ∷ []) = add_of d a b
 read_op tables word.Sub (d ∷ a ∷ b ∷ []) = sub_of d a b
+read_op tables word.Mul (d ∷ a ∷ b ∷ []) = mul_of d a b
 read_op tables word.Get (table ∷ key ∷ column ∷ d ∷ []) = get_of tables table key column d
+read_op tables word.Has (table ∷ key ∷ d ∷ []) = has_of tables table key d
 read_op tables word.Put (table ∷ key ∷ values) = put_of tables table key values
+read_op tables word.Del (table ∷ key ∷ []) = del_of tables table key
+read_op tables word.Scan (table ∷ key ∷ count ∷ column ∷ d ∷ []) = scan_of tables table key count column d
 read_op tables word.Need (a ∷ rel ∷ b ∷ []) = need_of a rel b
+read_op tables word.Skip (a ∷ rel ∷ b ∷ count ∷ []) = skip_of a rel b count
 read_op tables word.Out (a ∷ []) = out_of a
 read_op tables word words = Err Count

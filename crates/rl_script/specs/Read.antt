@@ -1,7 +1,5 @@
 -- What a script says, line by line, or what is wrong with its first wrong line.
-use Rattle.std.specs.Prelude.{ℕ, ◌+◌, ◌-◌, Bool, true, false, not, ◌&&◌, List, [], ◌∷◌, ◌++◌, length, slice_index, ◌==◌, nat_lt, Option, Some, None, is_some, Result, Ok, Err, if◌then◌else◌, codes}
-use Rattle.std.specs.Option.{option_map}
-use Rattle.std.specs.Result.{result_ok}
+use Rattle.std.specs.Prelude.{ℕ, ◌+◌, ◌-◌, Bool, true, false, not, ◌&&◌, List, [], ◌∷◌, ◌++◌, length, slice_index, sum_by, replicate, ◌==◌, nat_lt, Option, Some, None, is_some, unwrap_or, Result, Ok, Err, if◌then◌else◌, codes}
 use Rattle.std.specs.Str.{bytes_eq}
 use Rattle.std.specs.FinMap as map
 use Rattle.rl_base.specs.Lists.{with_last}
@@ -9,32 +7,44 @@ use Rattle.rl_base.specs.declared.limit.LimitName.TheVariants as limits
 use Rattle.rl_value.specs.Names.{is_name}
 use Rattle.rl_value.specs.Tables.{table_named, size_of, record_count}
 use Rattle.rl_txn.specs.declared.op.Op.{Op}
+use Rattle.rl_events.specs.Events.{read_event}
+use Rattle.rl_events.specs.Fits.{count_of, elections_of}
+use Rattle.rl_events.specs.Text.{lines_of, words_of, is_printable}
+use Rattle.rl_events.specs.Words.{◌>>=◌, number, within}
+use Rattle.rl_events.specs.declared.event.Event.{Event}
+use Rattle.rl_events.specs.declared.line.EventWord.{EventWord}
+use Rattle.rl_events.specs.declared.kind.Kind.TheVariants.{Byte, Header, Word, Order, Count, Name, Duplicate, Unended}
 use Rattle.rl_script.specs.declared.draft.Section.{Section}
-use Rattle.rl_script.specs.declared.draft.Section.TheVariants.{Tables, Transactions}
+use Rattle.rl_script.specs.declared.draft.Section.TheVariants as section
 use Rattle.rl_script.specs.declared.draft.Draft.{Draft}
 use Rattle.rl_script.specs.declared.script.Script.{Script}
-use Rattle.rl_script.specs.declared.fault.Kind.{Kind}
-use Rattle.rl_script.specs.declared.fault.Kind.TheVariants.{Byte, Header, Word, Order, Count, Name, Duplicate, Unended}
+use Rattle.rl_script.specs.declared.settings.SettingWord.{SettingWord}
 use Rattle.rl_script.specs.declared.fault.Problem.{Problem}
 use Rattle.rl_script.specs.declared.fault.Problem.TheVariants.{Fault, Limit}
 use Rattle.rl_script.specs.declared.line.OpWord.{OpWord}
 use Rattle.rl_script.specs.declared.line.LineKind.{LineKind}
 use Rattle.rl_script.specs.declared.line.LineKind.TheVariants as line
 use Rattle.rl_script.specs.Answers.{as_problem}
+use Rattle.rl_script.specs.Fits.{is_before_requests, is_events}
 use Rattle.rl_script.specs.Lines.{line_kind}
-use Rattle.rl_script.specs.Operations.{◌>>=◌, table_for, read_op}
-use Rattle.rl_script.specs.Text.{lines_of, words_of, is_printable}
-use Rattle.rl_script.specs.Words.{number, within}
+use Rattle.rl_script.specs.Operations.{table_for, each_word, read_op}
+use Rattle.rl_script.specs.Settings.{no_settings, nodes_of, workers_of, with_setting}
+
+-- a setting: each worker has an empty list
+unfoldable pub setting : Draft → SettingWord → List ℕ → Result Draft Problem
+setting draft word value = do
+  settings ← as_problem (with_setting draft.settings word value)
+  Ok (record draft { settings = settings; lists = replicate (workers_of settings) [] })
 
 abbrev pub with_table : Draft → List ℕ → ℕ → ℕ → Draft
-with_table draft name size columns = record draft { schema = draft.schema ++ record { name = name; size = size; columns = columns } ∷ [] }
+with_table draft name size columns = record draft { section = section.Tables; schema = draft.schema ++ record { name = name; size = size; columns = columns } ∷ [] }
 
 -- a new table joins the others, where none has its name and the limits leave room
 abbrev pub joined : Draft → List ℕ → ℕ → ℕ → Result Draft Problem
 joined draft name size columns =
     if is_some (table_named name draft.schema) then Err (Fault Duplicate)
-    else (if length draft.schema == 16 then Err (Limit limits.Tables)
-    else (if nat_lt 65536 (record_count draft.schema + size) then Err (Limit limits.Records)
+    else (if length draft.schema == 16 then Err (Limit limits.Tables 16)
+    else (if nat_lt 65536 (record_count draft.schema + size) then Err (Limit limits.Records 65536)
     else Ok (with_table draft name size columns)))
 
 -- `table NAME SIZE COLUMNS`
@@ -45,24 +55,19 @@ declared draft name size columns = do
   columns ← as_problem (within 1 4 columns)
   joined draft name size columns
 
--- the numbers so far, and those that more words are
-unfoldable pub numbers_onto : List ℕ → List (List ℕ) → Result (List ℕ) Kind
-numbers_onto so_far [] = Ok so_far
-numbers_onto so_far (word ∷ words) = number word >>= λ n. numbers_onto (so_far ++ n ∷ []) words
-
 -- `row NAME KEY C0` up to the last column: a row that is not given before, KEY below the table's size
 unfoldable pub row_of : Draft → List ℕ → List ℕ → List (List ℕ) → Result Draft Problem
 row_of draft name key cells = do
   t ← as_problem (table_for draft.schema name (length cells))
   key ← as_problem (within 0 (size_of draft.schema t - 1) key)
-  cells ← as_problem (numbers_onto [] cells)
-  if is_some (map.get draft.rows (t, key)) then Err (Fault Duplicate) else Ok (record draft { rows = map.insert draft.rows (t, key) cells })
+  cells ← as_problem (each_word number cells)
+  if is_some (map.get draft.rows (t, key)) then Err (Fault Duplicate) else Ok (record draft { section = section.Tables; rows = map.insert draft.rows (t, key) cells })
 
 -- `txn W`: the next request of one of the lists
 unfoldable pub begun : Draft → List ℕ → Result Draft Problem
 begun draft worker = do
   worker ← as_problem (within 1 (length draft.lists) worker)
-  if draft.requests == 8192 then Err (Limit limits.Requests) else Ok (record draft { section = Transactions; requests = draft.requests + 1; current = Some (record { worker = worker; txn = [] }) })
+  if draft.requests == 8192 then Err (Limit limits.Requests 8192) else Ok (record draft { section = section.Transactions; requests = draft.requests + 1; current = Some (record { worker = worker; txn = [] }) })
 
 -- `end`: the open transaction becomes the last request of its list
 abbrev pub ended : Draft → Draft
@@ -75,7 +80,7 @@ ended draft = elim draft.current [
 abbrev pub with_op : Draft → Op → Result Draft Problem
 with_op draft op = elim draft.current [
   | None ↦ Err (Fault Order)
-  | Some current ↦ if length current.txn == 64 then Err (Limit limits.Ops) else Ok (record draft { current = Some (record current { txn = current.txn ++ op ∷ [] }) })
+  | Some current ↦ if length current.txn == 64 then Err (Limit limits.Ops 64) else Ok (record draft { current = Some (record current { txn = current.txn ++ op ∷ [] }) })
 ]
 
 -- the line of an op, without its first word
@@ -84,25 +89,44 @@ op_joined draft word words = do
   op ← as_problem (read_op draft.schema word words)
   with_op draft op
 
-abbrev pub is_tables : Section → Bool
-is_tables Tables = true
-is_tables Transactions = false
+-- one more event: an election too many comes first, then an event too many
+abbrev pub scheduled : List Event → Event → Result (List Event) Problem
+scheduled events event =
+    if nat_lt 64 (sum_by elections_of events + elections_of event) then Err (Limit limits.Elections 64)
+    else (if nat_lt 100000 (sum_by count_of events + count_of event) then Err (Limit limits.Events 100000) else Ok (events ++ event ∷ []))
 
--- whether a line of a kind can stand here: tables and rows before all transactions, ops and `end` inside one, and nothing else there
+-- the line of an event, without its first word
+unfoldable pub event_joined : Draft → EventWord → List (List ℕ) → Result Draft Problem
+event_joined draft word words = do
+  event ← as_problem (read_event (nodes_of draft.settings) (workers_of draft.settings) word words)
+  events ← scheduled draft.events event
+  Ok (record draft { events = events })
+
+abbrev pub is_settings : Section → Bool
+is_settings section.Settings = true
+is_settings s = false
+
+-- whether a line of a kind can stand here: settings, then tables and rows, then transactions, then the events; ops and `end` inside a transaction, and nothing else there
 abbrev pub in_order : Draft → LineKind → Bool
-in_order draft line.Table = is_tables draft.section
-in_order draft line.Row = is_tables draft.section
-in_order draft line.Txn = not (is_some draft.current)
+in_order draft (line.Setting word) = is_settings draft.section
+in_order draft line.Table = is_before_requests draft.section
+in_order draft line.Row = is_before_requests draft.section
+in_order draft line.Txn = not (is_some draft.current) && not (is_events draft.section)
 in_order draft line.End = is_some draft.current
 in_order draft (line.Op word) = is_some draft.current
+in_order draft line.Events = not (is_some draft.current) && not (is_events draft.section)
+in_order draft (line.Event word) = is_events draft.section
 
 -- a line of a kind, without its first word
 abbrev pub read_kind : Draft → LineKind → List (List ℕ) → Result Draft Problem
+read_kind draft (line.Setting word) (value ∷ []) = setting draft word value
 read_kind draft line.Table (name ∷ size ∷ columns ∷ []) = declared draft name size columns
 read_kind draft line.Row (name ∷ key ∷ cells) = row_of draft name key cells
 read_kind draft line.Txn (worker ∷ []) = begun draft worker
 read_kind draft line.End [] = Ok (ended draft)
 read_kind draft (line.Op word) words = op_joined draft word words
+read_kind draft line.Events [] = Ok (record draft { section = section.Events })
+read_kind draft (line.Event word) words = event_joined draft word words
 read_kind draft kind words = Err (Fault Count)
 
 -- the words of a line: nothing, a comment, or a line of a kind that can stand here
@@ -110,7 +134,7 @@ unfoldable pub read_words : Draft → List (List ℕ) → Result Draft Problem
 read_words draft [] = Ok draft
 read_words draft (word ∷ words) =
     if slice_index word 0 == 35 then Ok draft
-    else elim (line_kind word) [
+    else elim (line_kind draft.section word) [
       | None ↦ Err (Fault Word)
       | Some kind ↦ if in_order draft kind then read_kind draft kind words else Err (Fault Order)
     ]
@@ -140,26 +164,34 @@ is_header words = false
 unfoldable pub header_fault : List ℕ → Option Problem
 header_fault line = if is_printable line then (if is_header (words_of line) then None else Some (Fault Header)) else Some (Fault Byte)
 
--- nothing is declared yet, and each list is empty
+-- nothing is set or declared yet, and the one list is empty
 abbrev pub opening : Draft
-opening = record { schema = []; rows = map.empty; lists = [] ∷ []; requests = 0; section = Tables; current = None }
+opening = record { section = section.Settings; settings = no_settings; schema = []; rows = map.empty; lists = [] ∷ []; requests = 0; current = None; events = [] }
 
 abbrev pub after_header : Option Problem → List (List ℕ) → Result Draft (ℕ × Problem)
 after_header None lines = read_lines 2 opening lines
 after_header (Some problem) lines = Err (1, problem)
 
+-- all lines of a text
 abbrev pub read_text : List (List ℕ) → Result Draft (ℕ × Problem)
 read_text [] = Err (1, Fault Header)
 read_text (first ∷ lines) = after_header (header_fault first) lines
 
--- what a text says, or what is wrong with its first wrong line
-unfoldable pub read : List ℕ → Result Draft (ℕ × Problem)
-read text = read_text (lines_of text)
-
--- the script of what the lines say
+-- the script of what the lines say; settings that are not given have their default values
 abbrev pub script_of : Draft → Script
-script_of draft = record { schema = draft.schema; rows = draft.rows; lists = draft.lists }
+script_of draft = record {
+  schema = draft.schema;
+  rows = draft.rows;
+  nodes = nodes_of draft.settings;
+  workers = workers_of draft.settings;
+  batch = unwrap_or draft.settings.batch 1;
+  loss = unwrap_or draft.settings.loss 0;
+  seed = unwrap_or draft.settings.seed 0;
+  stops = draft.settings.stops;
+  lists = draft.lists;
+  events = draft.events;
+}
 
--- the script that a text is, if it is one of the form that is read so far
-abbrev pub script_in : List ℕ → Option Script
-script_in text = option_map script_of (result_ok (read text))
+-- the script that a text is, or the first line that breaks a rule or passes a limit, and which
+unfoldable pub read : List ℕ → Result Script (ℕ × Problem)
+read text = read_text (lines_of text) >>= λ draft. Ok (script_of draft)

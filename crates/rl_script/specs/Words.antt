@@ -1,29 +1,14 @@
--- What words must be: numbers in a range, registers, operands, relations.
-use Rattle.std.specs.Prelude.{ℕ, ◌&&◌, List, length, slice_index, drop, ◌==◌, nat_le, nat_lt, Option, Some, None, Result, Ok, Err, if◌then◌else◌, codes}
+-- What words must be: registers, operands, relations.
+use Rattle.std.specs.Prelude.{ℕ, ◌&&◌, List, length, slice_index, drop, ◌==◌, nat_lt, Option, Some, None, Result, Ok, Err, if◌then◌else◌, codes}
 use Rattle.std.specs.Str.{bytes_eq}
 use Rattle.rl_txn.specs.declared.op.Operand.{Operand}
 use Rattle.rl_txn.specs.declared.op.Operand.TheVariants.{Reg, Num}
 use Rattle.rl_txn.specs.declared.op.Rel.{Rel}
 use Rattle.rl_txn.specs.declared.op.Rel.TheVariants.{Eq, Ne, Lt, Le, Gt, Ge}
-use Rattle.rl_script.specs.declared.fault.Kind.{Kind}
-use Rattle.rl_script.specs.declared.fault.Kind.TheVariants.{Number, Range, Register, Relation}
-use Rattle.rl_script.specs.Text.{number_of}
-
--- a value where there is one, else a fault of a kind
-abbrev pub or_fault : {A : Type 0} → Kind → Option A → Result A Kind
-or_fault kind None = Err kind
-or_fault kind (Some x) = Ok x
-
--- a word that must be a number
-abbrev pub number : List ℕ → Result ℕ Kind
-number word = or_fault Number (number_of word)
-
--- a word that must be a number from low to high
-unfoldable pub within : ℕ → ℕ → List ℕ → Result ℕ Kind
-within low high word = elim (number word) [
-  | Err kind ↦ Err kind
-  | Ok n ↦ if nat_le low n && nat_le n high then Ok n else Err Range
-]
+use Rattle.rl_events.specs.declared.kind.Kind.{Kind}
+use Rattle.rl_events.specs.declared.kind.Kind.TheVariants.{Register, Relation}
+use Rattle.rl_events.specs.Text.{number_of}
+use Rattle.rl_events.specs.Words.{or_fault}
 
 -- `r0` to `r15`
 unfoldable pub register_of : List ℕ → Option ℕ

@@ -1,39 +1,45 @@
 //! What the lines of a script say so far.
 
-ghost use Rattle.std.specs.Prelude.{◌≡◌, ◌≤◌, ◌<◌, [], MatchResult, None, Ok, IfOk, OnOk, true, length, map, vec_len};
+ghost use Rattle.std.specs.Prelude.{◌≡◌, ◌≤◌, ◌<◌, [], MatchResult, None, Ok, IfOk, OnOk, true, false, length, map, replicate, vec_len};
 ghost use Rattle.rl_value.specs.Names.{is_name};
 ghost use Rattle.rl_txn.specs.Fits.{OpFits};
 ghost use Rattle.rl_script.specs.Answers.{as_problem, Fails};
-ghost use Rattle.rl_script.specs.Fits.{DraftFits};
-ghost use Rattle.rl_script.specs.Read.{numbers_onto, joined, declared, row_of, begun, ended, op_joined, in_order, read_kind, read_words, read_line, opening};
-ghost use Rattle.rl_script.specs.declared.draft.Section.TheVariants.{Tables};
+ghost use Rattle.rl_script.specs.Fits.{DraftFits, is_before_requests, is_events};
+ghost use Rattle.rl_events.specs.Words.{number};
+ghost use Rattle.rl_script.specs.Operations.{each_word};
+ghost use Rattle.rl_script.specs.Read.{is_settings, setting, joined, declared, row_of, begun, ended, op_joined, event_joined, in_order, read_kind, read_words, read_line, opening};
 
-use crate::fault::{Kind, LineError, Problem};
+use crate::fault::LineError;
 use crate::line::{LineKind, OpWord, line_kind};
 use crate::operation::{read_op, table_for};
-use crate::text::{printable, words};
-use crate::word::{number, within};
+use crate::schedule::Schedule;
+use crate::settings::{SettingWord, Settings};
 use rl_base::limit::LimitName;
-use rl_base::list::Seq;
 use rl_base::memory::Memory;
+use rl_events::kind::Kind;
+use rl_events::line::{EventWord, read_event};
+use rl_events::text::{printable, words};
+use rl_events::word::{number, within};
 use rl_txn::op::{Lists, Requests, Txn};
 use rl_value::map::Map;
 use rl_value::name::is_name;
 use rl_value::row::Row;
-use rl_value::schema::{DeclareError, Schema};
+use rl_value::schema::{DeclareError, MOST_RECORDS, MOST_TABLES, Schema};
 use std::alloc::Global;
 
 /// How many requests the lists may have together.
 const MOST_REQUESTS: u32 = 8192;
 
 /// How many ops a transaction may have.
-const MOST_OPS: usize = 64;
+const MOST_OPS: u32 = 64;
 
 /// Which part of a script the last line belongs to.
 #[derive(Clone, Copy, Debug, PartialEq, Eq)]
 pub enum Section {
+    Settings,
     Tables,
     Transactions,
+    Events,
 }
 
 /// A transaction whose `end` has not come yet.
@@ -46,20 +52,33 @@ pub struct OpenTxn {
 /// What the lines so far say. `requests` counts the transactions that have begun.
 #[derive(Drop)]
 pub struct Draft {
+    pub section: Section,
+    pub settings: Settings,
     pub schema: Schema,
     pub rows: Map,
     pub lists: Lists,
     pub requests: u32,
-    pub section: Section,
     pub current: Option<OpenTxn>,
+    pub events: Schedule,
+}
+
+/// An empty list for each of some workers.
+fn empty_lists(alloc: Global, workers: u32) -> Result<Lists, Memory>
+    ensures { IfOk result (λ lists. lists ≡ replicate workers []) }
+{
+    let mut lists = Lists::new(alloc);
+    for worker in 0..workers {
+        lists.push(Requests::new(alloc))?;
+    }
+    Ok(lists)
 }
 
 /// The numbers that some words are.
-#[tactic(auto, unfolding(crate::specs::Read::numbers_onto))]
+#[tactic(auto, using(crate::proofs::Each::each))]
 fn numbers(alloc: Global, words: &[&str]) -> Result<Vec<u64>, LineError>
     ensures numbers { MatchResult result
-        (λ numbers. numbers_onto [] (map (λ w. w.now) words.now) ≡ Ok numbers.items)
-        (λ e. Fails e (as_problem (numbers_onto [] (map (λ w. w.now) words.now)))) }
+        (λ numbers. each_word number (map (λ w. w.now) words.now) ≡ Ok numbers.items)
+        (λ e. Fails e (as_problem (each_word number (map (λ w. w.now) words.now)))) }
     ensures count { IfOk result (λ numbers. vec_len numbers ≡ length words.now) }
 {
     let mut numbers = Vec::new(alloc);
@@ -78,16 +97,31 @@ impl Draft {
         ensures opening { IfOk result (λ draft. draft ≡ opening) }
         ensures fits { IfOk result (λ draft. DraftFits draft) }
     {
-        let mut lists = Lists::new(alloc);
-        lists.push(Requests::new(alloc))?;
         Ok(Draft {
+            section: Section::Settings,
+            settings: Settings::new(alloc),
             schema: Schema::new(alloc),
             rows: Map::new(alloc),
-            lists,
+            lists: empty_lists(alloc, 1)?,
             requests: 0,
-            section: Section::Tables,
             current: None,
+            events: Schedule::new(alloc),
         })
+    }
+
+    /// A setting: each worker has an empty list.
+    #[tactic(auto, unfolding(crate::specs::Read::setting))]
+    fn setting(&mut self, alloc: Global, word: SettingWord, value: &str) -> Result<(), LineError>
+        requires fits { DraftFits self.old }
+        requires first { is_settings self.old.section ≡ true }
+        ensures setting { MatchResult result
+            (λ _. setting self.old word value.now ≡ Ok self.new)
+            (λ e. Fails e (setting self.old word value.now)) }
+        ensures fits { IfOk result (λ _. DraftFits self.new) }
+    {
+        self.settings.set(word, value)?;
+        self.lists = empty_lists(alloc, self.settings.workers())?;
+        Ok(())
     }
 
     /// A new table joins the others.
@@ -98,17 +132,22 @@ impl Draft {
         requires some_columns { 1 ≤ columns }
         requires few_columns { columns ≤ 4 }
         requires fits { DraftFits self.old }
-        requires first { self.old.section ≡ Tables }
+        requires first { is_before_requests self.old.section ≡ true }
         ensures joined { MatchResult result
             (λ _. joined self.old name.now size columns ≡ Ok self.new)
             (λ e. Fails e (joined self.old name.now size columns)) }
         ensures fits { IfOk result (λ _. DraftFits self.new) }
     {
+        self.section = Section::Tables;
         match self.schema.declare(alloc, name, size, columns) {
             Ok(_) => Ok(()),
             Err(DeclareError::DuplicateTable) => Err(Kind::Duplicate.into()),
-            Err(DeclareError::TooManyTables) => Err(Problem::Limit(LimitName::Tables).into()),
-            Err(DeclareError::TooManyRecords) => Err(Problem::Limit(LimitName::Records).into()),
+            Err(DeclareError::TooManyTables) => {
+                Err(LineError::limit(LimitName::Tables, MOST_TABLES as u32))
+            }
+            Err(DeclareError::TooManyRecords) => {
+                Err(LineError::limit(LimitName::Records, MOST_RECORDS))
+            }
             Err(DeclareError::Memory) => Err(LineError::Memory),
         }
     }
@@ -123,7 +162,7 @@ impl Draft {
         columns: &str,
     ) -> Result<(), LineError>
         requires fits { DraftFits self.old }
-        requires first { self.old.section ≡ Tables }
+        requires first { is_before_requests self.old.section ≡ true }
         ensures declared { MatchResult result
             (λ _. declared self.old name.now size.now columns.now ≡ Ok self.new)
             (λ e. Fails e (declared self.old name.now size.now columns.now)) }
@@ -141,6 +180,7 @@ impl Draft {
     #[tactic(auto, unfolding(crate::specs::Read::row_of))]
     fn row(&mut self, alloc: Global, name: &str, key: &str, cells: &[&str]) -> Result<(), LineError>
         requires fits { DraftFits self.old }
+        requires first { is_before_requests self.old.section ≡ true }
         ensures row { MatchResult result
             (λ _. row_of self.old name.now key.now (map (λ w. w.now) cells.now) ≡ Ok self.new)
             (λ e. Fails e (row_of self.old name.now key.now (map (λ w. w.now) cells.now))) }
@@ -152,6 +192,7 @@ impl Draft {
         if self.rows.get(t, key).is_some() {
             return Err(Kind::Duplicate.into());
         }
+        self.section = Section::Tables;
         self.rows.put(t, key, Row::from_slice(cells.as_slice()))?;
         Ok(())
     }
@@ -161,6 +202,7 @@ impl Draft {
     fn begin(&mut self, alloc: Global, worker: &str) -> Result<(), LineError>
         requires fits { DraftFits self.old }
         requires rest { self.old.current ≡ None }
+        requires no_events { is_events self.old.section ≡ false }
         ensures begun { MatchResult result
             (λ _. begun self.old worker.now ≡ Ok self.new)
             (λ e. Fails e (begun self.old worker.now)) }
@@ -168,7 +210,7 @@ impl Draft {
     {
         let worker = within(1, self.lists.len() as u32, worker)?;
         if self.requests == MOST_REQUESTS {
-            return Err(Problem::Limit(LimitName::Requests).into());
+            return Err(LineError::limit(LimitName::Requests, MOST_REQUESTS));
         }
         self.section = Section::Transactions;
         self.requests += 1;
@@ -205,22 +247,53 @@ impl Draft {
         let Some(OpenTxn { worker, mut txn }) = self.current.take() else {
             return Err(Kind::Order.into());
         };
-        if txn.len() == MOST_OPS {
-            return Err(Problem::Limit(LimitName::Ops).into());
+        if txn.len() == MOST_OPS as usize {
+            return Err(LineError::limit(LimitName::Ops, MOST_OPS));
         }
         txn.push(op)?;
         self.current = Some(OpenTxn { worker, txn });
         Ok(())
     }
 
+    /// `events`
+    fn begin_events(&mut self)
+        requires fits { DraftFits self.old }
+        ensures events { self.new ≡ record self.old { section = Section.Events } }
+        ensures fits { DraftFits self.new }
+    {
+        self.section = Section::Events;
+    }
+
+    /// The line of an event.
+    #[tactic(auto, unfolding(crate::specs::Read::event_joined))]
+    fn event(&mut self, word: EventWord, words: &[&str]) -> Result<(), LineError>
+        requires fits { DraftFits self.old }
+        requires last { is_events self.old.section ≡ true }
+        ensures event { MatchResult result
+            (λ _. event_joined self.old word (map (λ w. w.now) words.now) ≡ Ok self.new)
+            (λ e. Fails e (event_joined self.old word (map (λ w. w.now) words.now))) }
+        ensures fits { IfOk result (λ _. DraftFits self.new) }
+    {
+        let nodes = self.settings.nodes();
+        let event = read_event(word, words, nodes, self.settings.workers())?;
+        self.events.push(event)
+    }
+
     /// Whether a line of a kind can stand here.
     fn takes(&self, kind: LineKind) -> bool
         ensures { result ≡ in_order self.now kind }
     {
+        let section = self.section;
         match kind {
-            LineKind::Table | LineKind::Row => self.section == Section::Tables,
-            LineKind::Txn => self.current.is_none(),
+            LineKind::Setting(_) => section == Section::Settings,
+            LineKind::Table | LineKind::Row => {
+                section == Section::Settings || section == Section::Tables
+            }
+            LineKind::Txn | LineKind::Events => {
+                self.current.is_none() && section != Section::Events
+            }
             LineKind::End | LineKind::Op(_) => self.current.is_some(),
+            LineKind::Event(_) => section == Section::Events,
         }
     }
 
@@ -234,6 +307,10 @@ impl Draft {
         ensures fits { IfOk result (λ _. DraftFits self.new) }
     {
         match kind {
+            LineKind::Setting(word) => match words {
+                [value] => self.setting(alloc, word, value),
+                _ => Err(Kind::Count.into()),
+            },
             LineKind::Table => match words {
                 [name, size, columns] => self.table(alloc, name, size, columns),
                 _ => Err(Kind::Count.into()),
@@ -251,6 +328,11 @@ impl Draft {
                 _ => Err(Kind::Count.into()),
             },
             LineKind::Op(word) => self.op(alloc, word, words),
+            LineKind::Events => match words {
+                [] => Ok(self.begin_events()),
+                _ => Err(Kind::Count.into()),
+            },
+            LineKind::Event(word) => self.event(word, words),
         }
     }
 
@@ -269,7 +351,7 @@ impl Draft {
         if first.starts_with('#') {
             return Ok(());
         }
-        match line_kind(first) {
+        match line_kind(self.section, first) {
             None => Err(Kind::Word.into()),
             Some(kind) if self.takes(kind) => self.kind(alloc, kind, rest),
             Some(_) => Err(Kind::Order.into()),

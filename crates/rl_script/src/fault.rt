@@ -5,41 +5,9 @@ ghost use Rattle.rl_script.specs.Answers.{error_at};
 
 use rl_base::limit::LimitName;
 use rl_base::memory::Memory;
+use rl_events::kind::Kind;
 use std::alloc::{AllocError, AllocFailed};
 use thiserror::Error;
-
-/// Which rule of the language a line breaks.
-#[derive(Clone, Copy, Debug, PartialEq, Eq)]
-pub enum Kind {
-    /// A byte outside 32 to 126.
-    Byte,
-    /// The first line is not `rolis 1`.
-    Header,
-    /// The first word is none that can begin a line.
-    Word,
-    /// The line can't stand here.
-    Order,
-    /// Another number of words than the line has.
-    Count,
-    /// A word that must be a number is none.
-    Number,
-    /// A number outside its range.
-    Range,
-    /// A word that must be a table's name is none.
-    Name,
-    /// A table or a row is given twice.
-    Duplicate,
-    /// A table is not declared before.
-    UnknownTable,
-    /// A word is no register, or no operand.
-    Register,
-    /// A word is no relation.
-    Relation,
-    /// The text ends inside a transaction.
-    Unended,
-    /// The text is no script of the form that is read so far.
-    Later,
-}
 
 /// What is wrong with a line.
 #[derive(Clone, Copy, Debug, PartialEq, Eq)]
@@ -47,7 +15,7 @@ pub enum Problem {
     /// It breaks a rule.
     Fault(Kind),
     /// It passes a limit.
-    Limit(LimitName),
+    Limit { name: LimitName, limit: u32 },
 }
 
 /// Why a line was not read.
@@ -115,45 +83,56 @@ impl<T: Drop> From<AllocFailed<T>> for LineError {
     }
 }
 
-/// Why a text was not read.
-#[derive(Clone, Copy, Debug, PartialEq, Eq)]
-pub enum TextError {
-    /// The first line with which something is wrong, and what.
-    Wrong { line: u32, problem: Problem },
+/// Why a script was not read.
+#[derive(Clone, Copy, Debug, PartialEq, Eq, Error)]
+pub enum ParseError {
+    /// The first line with which something is wrong breaks a rule.
+    #[error("fault line {line} {kind:?}")]
+    Fault {
+        line: u32,
+        kind: Kind,
+    },
+    /// The first line with which something is wrong passes a limit.
+    #[error("line {line}: limit {name:?} {limit}")]
+    Limit {
+        line: u32,
+        name: LimitName,
+        limit: u32,
+    },
     /// There was no memory left.
+    #[error("memory")]
     Memory,
 }
 
-impl From<Memory> for TextError {
+impl From<Memory> for ParseError {
     ghost use Rattle.std.specs.Prelude.{◌≡◌};
-    ghost use Rattle.rl_script.specs.declared.fault.TextError.TheVariants.{Memory};
+    ghost use Rattle.rl_script.specs.declared.fault.ParseError.TheVariants.{Memory};
 
     ghost from_gives = { λ _ e. e ≡ Memory };
 
-    fn from(_e: Memory) -> TextError {
-        TextError::Memory
+    fn from(_e: Memory) -> ParseError {
+        ParseError::Memory
     }
 }
 
 impl LineError {
+    /// A line passes a limit.
+    pub fn limit(name: LimitName, limit: u32) -> LineError
+        ensures { result ≡ LineError.Problem (Problem.Limit name limit) }
+    {
+        LineError::Problem(Problem::Limit { name, limit })
+    }
+
     /// The error of a text whose line of a number has this one.
-    pub fn at(self, line: u32) -> TextError
+    pub fn at(self, line: u32) -> ParseError
         ensures { result ≡ error_at line self }
     {
         match self {
-            LineError::Problem(problem) => TextError::Wrong { line, problem },
-            LineError::Memory => TextError::Memory,
+            LineError::Problem(Problem::Fault(kind)) => ParseError::Fault { line, kind },
+            LineError::Problem(Problem::Limit { name, limit }) => {
+                ParseError::Limit { line, name, limit }
+            }
+            LineError::Memory => ParseError::Memory,
         }
     }
-}
-
-/// Why a script was not read.
-#[derive(Clone, Copy, Debug, PartialEq, Eq, Error)]
-pub enum ParseError {
-    /// The first line that breaks a rule, and which rule. So far each is line 0 and `Later`.
-    #[error("fault line {line} {kind:?}")]
-    Fault { line: u32, kind: Kind },
-    /// There was no memory left.
-    #[error("memory")]
-    Memory,
 }

@@ -1,10 +1,13 @@
 //! Reads a script.
 #![tactic(auto)]
 
-pub mod draft;
+mod draft;
 pub mod fault;
-pub mod line;
-pub mod operation;
+mod line;
+mod operation;
+mod schedule;
 pub mod script;
-pub mod text;
-pub mod word;
+mod settings;
+#[cfg(test)]
+mod tests;
+mod word;

@@ -1,14 +1,17 @@
 //! The lines of a transaction.
 
-ghost use Rattle.std.specs.Prelude.{◌≡◌, ◌<◌, ◌≤◌, List, [], All, MatchResult, Ok, IfOk, length, map};
+ghost use Rattle.std.specs.Prelude.{◌≡◌, ◌≢◌, ◌<◌, ◌≤◌, List, [], All, MatchResult, Ok, IfOk, length, map};
 ghost use Rattle.rl_value.specs.Tables.{Table, columns_of};
 ghost use Rattle.rl_txn.specs.Fits.{OperandFits, OpFits};
-ghost use Rattle.rl_script.specs.Operations.{known, table_for, operands_onto, set_of, add_of, sub_of, get_of, put_of, need_of, out_of, read_op};
+ghost use Rattle.rl_script.specs.Operations.{known, table_for, each_word, set_of, add_of, sub_of, mul_of, get_of, has_of, put_of, del_of, scan_of, need_of, skip_of, out_of, read_op};
 ghost use Rattle.rl_script.specs.Answers.{as_problem, Fails};
+ghost use Rattle.rl_script.specs.Words.{operand};
 
-use crate::fault::{Kind, LineError};
+use crate::fault::LineError;
 use crate::line::OpWord;
-use crate::word::{operand, register, relation, within};
+use crate::word::{operand, register, relation};
+use rl_events::kind::Kind;
+use rl_events::word::within;
 use rl_txn::op::{Op, Operands};
 use rl_value::schema::Schema;
 use std::alloc::Global;
@@ -40,11 +43,11 @@ pub fn table_for(schema: &Schema, name: &str, count: usize) -> Result<u32, Kind>
 }
 
 /// The operands that some words are.
-#[tactic(auto, unfolding(crate::specs::Operations::operands_onto))]
+#[tactic(auto, using(crate::proofs::Each::each))]
 fn operands(alloc: Global, words: &[&str]) -> Result<Operands, LineError>
     ensures operands { MatchResult result
-        (λ operands. operands_onto [] (map (λ w. w.now) words.now) ≡ Ok operands)
-        (λ e. Fails e (as_problem (operands_onto [] (map (λ w. w.now) words.now)))) }
+        (λ operands. each_word operand (map (λ w. w.now) words.now) ≡ Ok operands)
+        (λ e. Fails e (as_problem (each_word operand (map (λ w. w.now) words.now)))) }
     ensures count { IfOk result (λ operands. length operands ≡ length words.now) }
     ensures fit { IfOk result (λ operands. All OperandFits operands) }
 {
@@ -93,6 +96,18 @@ fn sub(d: &str, a: &str, b: &str) -> Result<Op, Kind>
     Ok(Op::Sub { d, a, b })
 }
 
+/// `mul D A B`
+#[tactic(auto, unfolding(crate::specs::Operations::mul_of))]
+fn mul(d: &str, a: &str, b: &str) -> Result<Op, Kind>
+    ensures op { result ≡ mul_of d.now a.now b.now }
+    ensures fits { (tables : List Table) → IfOk result (λ op. OpFits tables op) }
+{
+    let d = register(d)?;
+    let a = operand(a)?;
+    let b = operand(b)?;
+    Ok(Op::Mul { d, a, b })
+}
+
 /// `get T K C D`
 #[tactic(auto, unfolding(crate::specs::Operations::get_of))]
 fn get(schema: &Schema, table: &str, key: &str, column: &str, d: &str) -> Result<Op, Kind>
@@ -109,6 +124,18 @@ fn get(schema: &Schema, table: &str, key: &str, column: &str, d: &str) -> Result
         column,
         d,
     })
+}
+
+/// `has T K D`
+#[tactic(auto, unfolding(crate::specs::Operations::has_of))]
+fn has(schema: &Schema, table: &str, key: &str, d: &str) -> Result<Op, Kind>
+    ensures op { result ≡ has_of schema.now table.now key.now d.now }
+    ensures fits { IfOk result (λ op. OpFits schema.now op) }
+{
+    let table = known(schema, table)?;
+    let key = operand(key)?;
+    let d = register(d)?;
+    Ok(Op::Has { table, key, d })
 }
 
 /// `put T K A0` up to the last column
@@ -131,6 +158,44 @@ fn put(
     Ok(Op::Put { table, key, values })
 }
 
+/// `del T K`
+#[tactic(auto, unfolding(crate::specs::Operations::del_of))]
+fn del(schema: &Schema, table: &str, key: &str) -> Result<Op, Kind>
+    ensures op { result ≡ del_of schema.now table.now key.now }
+    ensures fits { IfOk result (λ op. OpFits schema.now op) }
+{
+    let table = known(schema, table)?;
+    let key = operand(key)?;
+    Ok(Op::Del { table, key })
+}
+
+/// `scan T K N C D`
+#[tactic(auto, unfolding(crate::specs::Operations::scan_of))]
+fn scan(
+    schema: &Schema,
+    table: &str,
+    key: &str,
+    count: &str,
+    column: &str,
+    d: &str,
+) -> Result<Op, Kind>
+    ensures op { result ≡ scan_of schema.now table.now key.now count.now column.now d.now }
+    ensures fits { IfOk result (λ op. OpFits schema.now op) }
+{
+    let table = known(schema, table)?;
+    let key = operand(key)?;
+    let count = within(1, 256, count)?;
+    let column = within(0, schema.columns(table) - 1, column)?;
+    let d = register(d)?;
+    Ok(Op::Scan {
+        table,
+        key,
+        count,
+        column,
+        d,
+    })
+}
+
 /// `need A REL B`
 #[tactic(auto, unfolding(crate::specs::Operations::need_of))]
 fn need(a: &str, rel: &str, b: &str) -> Result<Op, Kind>
@@ -141,6 +206,19 @@ fn need(a: &str, rel: &str, b: &str) -> Result<Op, Kind>
     let rel = relation(rel)?;
     let b = operand(b)?;
     Ok(Op::Need { a, rel, b })
+}
+
+/// `skip A REL B N`
+#[tactic(auto, unfolding(crate::specs::Operations::skip_of))]
+fn skip(a: &str, rel: &str, b: &str, count: &str) -> Result<Op, Kind>
+    ensures op { result ≡ skip_of a.now rel.now b.now count.now }
+    ensures fits { (tables : List Table) → IfOk result (λ op. OpFits tables op) }
+{
+    let a = operand(a)?;
+    let rel = relation(rel)?;
+    let b = operand(b)?;
+    let count = within(1, 64, count)?;
+    Ok(Op::Skip { a, rel, b, count })
 }
 
 /// `out A`
@@ -166,33 +244,65 @@ pub fn read_op(
     ensures fits { IfOk result (λ op. OpFits schema.now op) }
 {
     match word {
-        OpWord::Set => match words {
-            [d, a] => Ok(set(d, a)?),
-            _ => Err(Kind::Count.into()),
-        },
-        OpWord::Add => match words {
-            [d, a, b] => Ok(add(d, a, b)?),
-            _ => Err(Kind::Count.into()),
-        },
-        OpWord::Sub => match words {
-            [d, a, b] => Ok(sub(d, a, b)?),
-            _ => Err(Kind::Count.into()),
-        },
-        OpWord::Get => match words {
-            [table, key, column, d] => Ok(get(schema, table, key, column, d)?),
-            _ => Err(Kind::Count.into()),
-        },
         OpWord::Put => match words {
             [table, key, values @ ..] => put(alloc, schema, table, key, values),
             _ => Err(Kind::Count.into()),
         },
+        _ => Ok(small_op(schema, word, words)?),
+    }
+}
+
+/// The op of such a line, but for `put`.
+fn small_op(schema: &Schema, word: OpWord, words: &[&str]) -> Result<Op, Kind>
+    requires { word ≢ OpWord.Put }
+    ensures op { result ≡ read_op schema.now word (map (λ w. w.now) words.now) }
+    ensures fits { IfOk result (λ op. OpFits schema.now op) }
+{
+    match word {
+        OpWord::Set => match words {
+            [d, a] => set(d, a),
+            _ => Err(Kind::Count),
+        },
+        OpWord::Add => match words {
+            [d, a, b] => add(d, a, b),
+            _ => Err(Kind::Count),
+        },
+        OpWord::Sub => match words {
+            [d, a, b] => sub(d, a, b),
+            _ => Err(Kind::Count),
+        },
+        OpWord::Mul => match words {
+            [d, a, b] => mul(d, a, b),
+            _ => Err(Kind::Count),
+        },
+        OpWord::Get => match words {
+            [table, key, column, d] => get(schema, table, key, column, d),
+            _ => Err(Kind::Count),
+        },
+        OpWord::Has => match words {
+            [table, key, d] => has(schema, table, key, d),
+            _ => Err(Kind::Count),
+        },
+        OpWord::Del => match words {
+            [table, key] => del(schema, table, key),
+            _ => Err(Kind::Count),
+        },
+        OpWord::Scan => match words {
+            [table, key, count, column, d] => scan(schema, table, key, count, column, d),
+            _ => Err(Kind::Count),
+        },
         OpWord::Need => match words {
-            [a, rel, b] => Ok(need(a, rel, b)?),
-            _ => Err(Kind::Count.into()),
+            [a, rel, b] => need(a, rel, b),
+            _ => Err(Kind::Count),
+        },
+        OpWord::Skip => match words {
+            [a, rel, b, count] => skip(a, rel, b, count),
+            _ => Err(Kind::Count),
         },
         OpWord::Out => match words {
-            [a] => Ok(out(a)?),
-            _ => Err(Kind::Count.into()),
+            [a] => out(a),
+            _ => Err(Kind::Count),
         },
+        OpWord::Put => Err(Kind::Count),
     }
 }

@@ -1,59 +1,75 @@
 //! A script, and how it is read.
 
-ghost use Rattle.std.specs.Prelude.{◌≡◌, ◌<◌, ◌-◌, ◌^◌, ◌⊎◌, Some, None, Ok, IfOk, IfErr, MatchResult, length, map};
-ghost use Rattle.rl_txn.specs.Fits.{ListsFit};
+ghost use Rattle.std.specs.Prelude.{◌≡◌, ◌<◌, ◌-◌, ◌^◌, None, Ok, IfOk, MatchResult, length, map};
+ghost use Rattle.rl_events.specs.Text.{lines_of};
 ghost use Rattle.rl_script.specs.Answers.{Finds, FailsAt};
-ghost use Rattle.rl_script.specs.Fits.{DraftFits};
-ghost use Rattle.rl_script.specs.Read.{is_header, header_fault, read, script_of, script_in};
+ghost use Rattle.rl_script.specs.Fits.{DraftFits, ScriptFits};
+ghost use Rattle.rl_script.specs.Read.{is_header, header_fault, read_text, read, script_of};
 
 use crate::draft::Draft;
-use crate::fault::{Kind, LineError, ParseError, Problem, TextError};
-use crate::text::{first_line, printable, words};
+use crate::fault::{LineError, ParseError};
+use rl_base::list::Seq;
+use rl_events::event::Events;
+use rl_events::kind::Kind;
+use rl_events::text::{first_line, printable, words};
 use rl_txn::op::Lists;
 use rl_value::map::Map;
 use rl_value::schema::Schema;
 use std::alloc::Global;
 
-/// A script: its tables, their opening rows, and the requests of each worker.
+/// The seqs behind which leaders are stopped, one for each stop.
+pub type Stops = Seq<u64>;
+
+/// A script: its tables with their opening rows, its settings, the requests of each worker, and
+/// the events.
 #[derive(Drop)]
 pub struct Script {
     pub schema: Schema,
     pub rows: Map,
+    /// How many nodes there are, 1 to 7.
+    pub nodes: u32,
+    /// How many workers there are, 1 to 16, each of which has a list.
+    pub workers: u32,
+    /// How many items a batch has, 1 to 64.
+    pub batch: u32,
+    /// How many messages of a thousand a link loses, 0 to 999.
+    pub loss: u32,
+    /// What losses are drawn from.
+    pub seed: u64,
+    pub stops: Stops,
     pub lists: Lists,
+    pub events: Events,
 }
 
 /// The script that a text is.
 ///
-/// `Fault` has line 0 and the kind `Later` so far. It comes exactly where the text is no script
-/// of the form that is read so far.
+/// `Fault` and `Limit` name the first line with which something is wrong, and what: of a line that
+/// breaks rules the first one, in the order `Byte`, `Header`, `Word`, `Order`, `Count`, then each
+/// word from left to right, then `Duplicate`; and where it breaks none, the first limit that it
+/// passes. A text that ends inside a transaction is `Unended` at the line behind its last.
+#[tactic(auto, unfolding(crate::specs::Read::read))]
 pub fn parse(alloc: Global, text: &[u8]) -> Result<Script, ParseError>
     requires { length text.now < 2 ^ 32 - 1 }
-    ensures script { IfOk result (λ script. script_in text.now ≡ Some script) }
-    ensures refused { IfErr result (λ e. (e ≡ ParseError.Memory) ⊎ ((e ≡ ParseError.Fault 0 Kind.Later) × (script_in text.now ≡ None))) }
-    ensures fits { IfOk result (λ script. ListsFit script.schema script.lists) }
+    ensures script { MatchResult result (λ script. read text.now ≡ Ok script) (λ e. FailsAt e (read text.now)) }
+    ensures fits { IfOk result (λ script. ScriptFits script) }
 {
-    match read(alloc, text) {
+    match read_lines(alloc, text) {
         Ok(draft) => Ok(draft.into_script()),
-        Err(TextError::Wrong { .. }) => Err(ParseError::Fault {
-            line: 0,
-            kind: Kind::Later,
-        }),
-        Err(TextError::Memory) => Err(ParseError::Memory),
+        Err(e) => Err(e),
     }
 }
 
-/// What a text says, or what is wrong with its first wrong line.
-#[tactic(auto, unfolding(crate::specs::Read::read, crate::specs::Read::read_lines))]
-fn read(alloc: Global, text: &[u8]) -> Result<Draft, TextError>
+/// What the lines of a text say.
+#[tactic(auto, unfolding(crate::specs::Read::read_lines))]
+fn read_lines(alloc: Global, text: &[u8]) -> Result<Draft, ParseError>
     requires { length text.now < 2 ^ 32 - 1 }
-    ensures read { MatchResult result (λ draft. read text.now ≡ Ok draft) (λ e. FailsAt e (read text.now)) }
+    ensures read { MatchResult result
+        (λ draft. read_text (lines_of text.now) ≡ Ok draft)
+        (λ e. FailsAt e (read_text (lines_of text.now))) }
     ensures fits { IfOk result (λ draft. DraftFits draft) }
 {
     if text.is_empty() {
-        return Err(TextError::Wrong {
-            line: 1,
-            problem: Problem::Fault(Kind::Header),
-        });
+        return Err(LineError::from(Kind::Header).at(1));
     }
     let (first, mut rest) = first_line(text);
     if let Err(e) = header(alloc, first) {
@@ -70,10 +86,7 @@ fn read(alloc: Global, text: &[u8]) -> Result<Draft, TextError>
         rest = after;
     }
     if draft.current.is_some() {
-        return Err(TextError::Wrong {
-            line: number + 1,
-            problem: Problem::Fault(Kind::Unended),
-        });
+        return Err(LineError::from(Kind::Unended).at(number + 1));
     }
     Ok(draft)
 }
@@ -105,97 +118,23 @@ fn is_header(words: &[&str]) -> bool
 impl Draft {
     /// The script of what the lines say.
     fn into_script(self) -> Script
-        ensures { result ≡ script_of self }
+        requires { DraftFits self }
+        ensures script { result ≡ script_of self }
+        ensures fits { ScriptFits result }
     {
+        let nodes = self.settings.nodes();
+        let workers = self.settings.workers();
         Script {
             schema: self.schema,
             rows: self.rows,
+            nodes,
+            workers,
+            batch: self.settings.batch.unwrap_or(1),
+            loss: self.settings.loss.unwrap_or(0),
+            seed: self.settings.seed.unwrap_or(0),
+            stops: self.settings.stops,
             lists: self.lists,
+            events: self.events.into_events(),
         }
-    }
-}
-
-#[cfg(test)]
-mod tests {
-    use super::*;
-    use rl_base::limit::LimitName;
-    use std::test::Fail;
-
-    /// Texts after the line `rolis 1`, with the first line that is wrong and what is wrong with it.
-    const WRONG: [(&str, u32, Problem); 21] = [
-        ("table t 1 1\u{7f}", 2, Problem::Fault(Kind::Byte)),
-        ("frob", 2, Problem::Fault(Kind::Word)),
-        ("set r0 1", 2, Problem::Fault(Kind::Order)),
-        ("end", 2, Problem::Fault(Kind::Order)),
-        ("txn 1\nend\ntable t 1 1", 4, Problem::Fault(Kind::Order)),
-        ("txn 1\ntxn 1", 3, Problem::Fault(Kind::Order)),
-        ("table t 1", 2, Problem::Fault(Kind::Count)),
-        ("row t 0 1 2 3 4 5", 2, Problem::Fault(Kind::Count)),
-        ("table t 01 1", 2, Problem::Fault(Kind::Number)),
-        ("table t 65537 1", 2, Problem::Fault(Kind::Range)),
-        ("txn 2", 2, Problem::Fault(Kind::Range)),
-        ("table 1t 1 1", 2, Problem::Fault(Kind::Name)),
-        (
-            "table t 1 1\n\ntable t 1 1",
-            4,
-            Problem::Fault(Kind::Duplicate),
-        ),
-        ("row t 0 1", 2, Problem::Fault(Kind::UnknownTable)),
-        ("txn 1\nset r16 1\nend", 3, Problem::Fault(Kind::Register)),
-        (
-            "txn 1\nout 18446744073709551616",
-            3,
-            Problem::Fault(Kind::Register),
-        ),
-        ("txn 1\nneed 1 is 1", 3, Problem::Fault(Kind::Relation)),
-        (
-            "# a comment\ntxn 1\nout 1",
-            5,
-            Problem::Fault(Kind::Unended),
-        ),
-        (
-            "table t 65536 1\ntable u 1 1",
-            3,
-            Problem::Limit(LimitName::Records),
-        ),
-        (
-            "table t 2 1\nrow t 1 5\nrow t 1 6",
-            4,
-            Problem::Fault(Kind::Duplicate),
-        ),
-        (
-            "table t 2 1\ntxn 1\nget t 0 1 r0",
-            4,
-            Problem::Fault(Kind::Range),
-        ),
-    ];
-
-    #[test]
-    fn the_first_wrong_line_is_found(rt: HostRuntime) -> Result<(), Fail> {
-        for (text, line, problem) in WRONG {
-            let mut whole = String::from_str(rt.alloc(), "rolis 1\n")?;
-            whole.push_str(text)?;
-            assert!(rt; whole.len() < 1000);
-            let wrong = read(rt.alloc(), whole.as_bytes()).err();
-            assert_eq!(rt; wrong, Some(TextError::Wrong { line, problem }), "{text}");
-        }
-        for text in ["", "rolis 2", "\nrolis 1"] {
-            assert!(rt; text.len() < 1000);
-            let later = parse(rt.alloc(), text.as_bytes()).err();
-            let kind = Kind::Later;
-            assert_eq!(rt; later, Some(ParseError::Fault { line: 0, kind }), "{text}");
-        }
-        Ok(())
-    }
-
-    #[test]
-    fn a_script_is_read(rt: HostRuntime) -> Result<(), Fail> {
-        let text = b"  rolis   1\n\ntable t 2 1\n # note\nrow t 1 9\ntxn 1\nput t 0 r0\nend\n";
-        let Ok(script) = parse(rt.alloc(), text) else {
-            return Err("no script".into());
-        };
-        assert_eq!(rt; script.schema.count(), 1);
-        assert!(rt; script.rows.get(0, 1).is_some() && script.lists.len() == 1);
-        Ok(())
     }
 }

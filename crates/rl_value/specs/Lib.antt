@@ -1,4 +1,5 @@
 pub mod Declare
+pub mod Fits
 pub mod Names
 pub mod Rows
 pub mod Tables

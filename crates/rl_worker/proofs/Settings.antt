@@ -7,6 +7,7 @@ use Rattle.std.proofs.lemmas.List.FromFn.{get_or-map-range_with_len, length-map-
 use Rattle.std.specs.Option.{option_map_or, option_and_then}
 use Rattle.std.specs.List.{range_with_len}
 use Rattle.std.specs.FinMap as finite
+use Rattle.rl_value.specs.Fits.{RowsFit}
 use Rattle.rl_value.specs.Rows.{Rows}
 use Rattle.rl_value.specs.Tables.{Table, size_of, columns_of}
 use Rattle.rl_tables.specs.Numbers.{sizes_of, record_of, place_of}
@@ -23,7 +24,7 @@ use Rattle.rl_txn.specs.declared.write.Write.{Write}
 use Rattle.rl_worker.specs.Phases.{Answer, Read, Install, Rec, Outcome, Wants, Ends, Phase, Rest, Setting, has}
 use Rattle.rl_worker.specs.Items.{Distinct, Widths, Lawful}
 use Rattle.rl_worker.specs.Acts.{no_rec, AllFree, AllRest, Opens, RestAt}
-use Rattle.rl_worker.specs.Opening.{cells_of, overlay_of, install_of, outcome_of, outcome, request, asks, opening_rec, opening_recs, setting_of, first_of, at_rest, RowsFit, CoreFits}
+use Rattle.rl_worker.specs.Opening.{cells_of, overlay_of, install_of, outcome_of, outcome, request, asks, opening_rec, opening_recs, setting_of, first_of, at_rest, CoreFits}
 use Rattle.rl_worker.proofs.Writes.{RowFits, WriteFits, WritesFit, run_fits, run_distinct, place_of_write}
 
 pub sizes_length : (tables : List Table) → length (sizes_of tables) ≡ length tables

@@ -1,11 +1,12 @@
 -- The core of an open leader: real tables, request lists and rows.
-use Rattle.std.specs.Prelude.{◌≡◌, ℕ, zero, suc, ◌+◌, ◌-◌, ◌*◌, ◌^◌, ◌<◌, ◌≤◌, List, [], ◌∷◌, length, map, sum, get_or, slice_index, slice_get, replicate, Option, Some, None, is_some, All}
+use Rattle.std.specs.Prelude.{ℕ, zero, suc, ◌+◌, ◌-◌, ◌*◌, ◌^◌, ◌<◌, ◌≤◌, List, [], ◌∷◌, length, map, sum, get_or, slice_index, slice_get, replicate, Option, Some, None, is_some, All}
 use Rattle.std.specs.Option.{option_map_or, option_and_then}
 use Rattle.std.specs.List.{range_with_len}
 use Rattle.std.specs.FinMap as finite
 use Rattle.rl_base.specs.declared.stamp.Stamp.{Stamp}
+use Rattle.rl_value.specs.Fits.{RowsFit}
 use Rattle.rl_value.specs.Rows.{Rows}
-use Rattle.rl_value.specs.Tables.{Table, IsSchema, size_of, columns_of}
+use Rattle.rl_value.specs.Tables.{Table, IsSchema, columns_of}
 use Rattle.rl_tables.specs.Numbers.{sizes_of, record_of, place_of}
 use Rattle.rl_txn.specs.Fits.{ListsFit}
 use Rattle.rl_txn.specs.Run.{Overlay, run}
@@ -97,10 +98,6 @@ item_of epoch x = record { stamp = record { epoch = epoch; seq = x.stamp - epoch
 
 abbrev pub items_of : ℕ → List Item → List txn.Item
 items_of epoch xs = map (item_of epoch) xs
-
--- each row that is present is at a key that is there, and has its table's columns
-abbrev pub RowsFit : List Table → Rows → Type 0
-RowsFit tables rows = (t k : ℕ) (row : List ℕ) → finite.get rows (t, k) ≡ Some row → (t < length tables) × (k < size_of tables t) × (length row ≡ columns_of tables t)
 
 -- what a core may open with: the stamps are of earlier epochs, or 0
 pub record CoreFits (tables : List Table) (lists : List (List (List Op))) (rows : Rows) (stamps : List ℕ) (epoch : ℕ) : Type 0 where

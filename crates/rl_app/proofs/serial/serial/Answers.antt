@@ -7,8 +7,7 @@ returns g c =
     record {
       report = reported _ _ _ _ _ _ _ served;
       fault = faulted _ _ _ _ _ _ _ served;
-      limit = λ is. (limited _ _ _ _ _ _ _ served is).0;
-      limit_line = λ is. (limited _ _ _ _ _ _ _ served is).1;
+      limit = limited _ _ _ _ _ _ _ served;
       read_fault = λ is. (read_failed _ _ _ _ _ _ _ served is).0;
       read_fault_line = λ is. (read_failed _ _ _ _ _ _ _ served is).1;
       write_fault = λ is. (write_failed _ _ _ _ _ _ _ served is).0;

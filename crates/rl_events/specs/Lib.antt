@@ -1,0 +1,4 @@
+pub mod Events
+pub mod Fits
+pub mod Text
+pub mod Words

@@ -1,0 +1,155 @@
+//! What is wrong with texts, and what right ones say.
+
+use crate::fault::ParseError;
+use crate::script::parse;
+use rl_base::limit::LimitName;
+use rl_events::event::Event;
+use rl_events::kind::Kind;
+use std::test::Fail;
+
+/// Texts, with the first line that breaks a rule and the rule.
+const FAULTS: [(&str, u32, Kind); 45] = [
+    ("", 1, Kind::Header),
+    ("\nrolis 1", 1, Kind::Header),
+    ("rolis 2", 1, Kind::Header),
+    ("rolis 1 \u{7f}", 1, Kind::Byte),
+    ("rolis 1\nrolis 1", 2, Kind::Word),
+    ("rolis 1\n# \u{7f}", 2, Kind::Byte),
+    ("rolis 1\nelect 1", 2, Kind::Word),
+    ("rolis 1\ntxn 1\nall", 3, Kind::Word),
+    ("rolis 1\nset", 2, Kind::Order),
+    ("rolis 1\nend", 2, Kind::Order),
+    ("rolis 1\nevents\nevents", 3, Kind::Order),
+    ("rolis 1\nevents\nend x", 3, Kind::Order),
+    ("rolis 1\nevents\ntxn 1", 3, Kind::Order),
+    ("rolis 1\ntable t 1 1\nnodes 1", 3, Kind::Order),
+    ("rolis 1\ntxn 1\nend\ntable t", 4, Kind::Order),
+    ("rolis 1\ntxn 1\ntxn 1", 3, Kind::Order),
+    ("rolis 1\ntxn 1\nevents", 3, Kind::Order),
+    ("rolis 1\nnodes", 2, Kind::Count),
+    ("rolis 1\ntable t 1", 2, Kind::Count),
+    ("rolis 1\nrow t 0 1 2 3 4 5", 2, Kind::Count),
+    ("rolis 1\nrow t 0", 2, Kind::Count),
+    ("rolis 1\nevents\nstep 1 1", 3, Kind::Count),
+    ("rolis 1\ntable t 01 1", 2, Kind::Number),
+    ("rolis 1\ntable t 65537 1", 2, Kind::Range),
+    ("rolis 1\nnodes 8", 2, Kind::Range),
+    ("rolis 1\nstop 0", 2, Kind::Range),
+    ("rolis 1\nworkers 2\ntxn 3", 3, Kind::Range),
+    ("rolis 1\nworkers 2\nevents\nstep 1 3 1", 4, Kind::Range),
+    ("rolis 1\nevents\ndlv 0", 3, Kind::Range),
+    ("rolis 1\ntable 1t 1 1", 2, Kind::Name),
+    ("rolis 1\nloss 0\nloss 0", 3, Kind::Duplicate),
+    ("rolis 1\nloss 0\nloss 1000", 3, Kind::Range),
+    ("rolis 1\ntable t 1 1\n\ntable t 1 1", 4, Kind::Duplicate),
+    (
+        "rolis 1\ntable t 2 1\nrow t 1 5\nrow t 1 6",
+        4,
+        Kind::Duplicate,
+    ),
+    ("rolis 1\ntable t 2 1\nrow t 2 x", 3, Kind::Range),
+    ("rolis 1\nrow t 0 1", 2, Kind::UnknownTable),
+    ("rolis 1\ntxn 1\ndel t 0", 3, Kind::UnknownTable),
+    ("rolis 1\ntxn 1\nset r16 1", 3, Kind::Register),
+    (
+        "rolis 1\ntxn 1\nout 18446744073709551616",
+        3,
+        Kind::Register,
+    ),
+    ("rolis 1\ntxn 1\nneed 1 is 1", 3, Kind::Relation),
+    ("rolis 1\ntxn 1\nskip 1 eq 1 65", 3, Kind::Range),
+    ("rolis 1\ntable t 2 1\ntxn 1\nget t 0 1 r0", 4, Kind::Range),
+    (
+        "rolis 1\ntable t 2 1\ntxn 1\nscan t 0 257 0 r0",
+        4,
+        Kind::Range,
+    ),
+    ("rolis 1\ntable t 2 1\ntxn 1\nput t 0", 4, Kind::Count),
+    ("rolis 1\n# a comment\ntxn 1\nout 1", 5, Kind::Unended),
+];
+
+/// Texts that go on with some lines, how often these are repeated, and the first line at which a
+/// limit is passed, its name and its value.
+const LIMITS: [(&str, &str, usize, u32, LimitName, u32); 4] = [
+    (
+        "rolis 1\nevents\n",
+        "elect 1\n",
+        65,
+        67,
+        LimitName::Elections,
+        64,
+    ),
+    (
+        "rolis 1\nevents\n",
+        "random 1 50000\n",
+        3,
+        5,
+        LimitName::Events,
+        100000,
+    ),
+    ("rolis 1\ntxn 1\n", "out 1\n", 65, 67, LimitName::Ops, 64),
+    (
+        "rolis 1\n",
+        "txn 1\nend\n",
+        8193,
+        16386,
+        LimitName::Requests,
+        8192,
+    ),
+];
+
+#[test]
+fn faults_have_their_lines(rt: HostRuntime) -> Result<(), Fail> {
+    for (text, line, kind) in FAULTS {
+        assert!(rt; text.len() < 1000);
+        let fault = parse(rt.alloc(), text.as_bytes()).err();
+        assert_eq!(rt; fault, Some(ParseError::Fault { line, kind }), "{text}");
+    }
+    Ok(())
+}
+
+#[test]
+fn tables_pass_limits(rt: HostRuntime) -> Result<(), Fail> {
+    let text = b"rolis 1\ntable t 65536 1\ntable u 1 1";
+    let (line, name, limit) = (3, LimitName::Records, 65536);
+    let passed = parse(rt.alloc(), text).err();
+    assert_eq!(rt; passed, Some(ParseError::Limit { line, name, limit }));
+    Ok(())
+}
+
+#[test]
+fn limits_are_passed_by_one_more(rt: HostRuntime) -> Result<(), Fail> {
+    for (front, more, times, line, name, limit) in LIMITS {
+        let mut text = String::from_str(rt.alloc(), front)?;
+        for _ in 0..times {
+            text.push_str(more)?;
+        }
+        assert!(rt; text.len() < 1000000);
+        let passed = parse(rt.alloc(), text.as_bytes()).err();
+        assert_eq!(rt;
+            passed,
+            Some(ParseError::Limit { line, name, limit }),
+            "{more}"
+        );
+    }
+    Ok(())
+}
+
+#[test]
+fn a_script_is_read(rt: HostRuntime) -> Result<(), Fail> {
+    let text =
+        b"  rolis   1\nstop 5\nworkers 2\nnodes 3\nbatch 8\nloss 7\nseed 9\nstop 6\n\ntable t 2 1\n # note\nrow t 1 9\ntxn 2\nmul r0 2 3\nhas t 0 r1\nscan t 0 2 0 r2\nskip r0 eq r1 1\ndel t 0\nput t 0 r0\nend\nevents\nelect 3\nplay 1 2";
+    let Ok(script) = parse(rt.alloc(), text) else {
+        return Err("no script".into());
+    };
+    assert_eq!(rt; script.nodes, 3);
+    assert_eq!(rt; script.workers, 2);
+    assert_eq!(rt; script.batch, 8);
+    assert_eq!(rt; script.loss, 7);
+    assert_eq!(rt; script.seed, 9);
+    assert!(rt; script.stops.len() == 2 && script.schema.count() == 1);
+    assert!(rt; script.rows.get(0, 1).is_some() && script.lists.len() == 2);
+    assert!(rt; script.lists.get(1).len() == 1 && script.events.len() == 2);
+    assert_eq!(rt; *script.events.get(1), Event::Play { node: 1, stream: 2 });
+    Ok(())
+}
