@@ -56,7 +56,7 @@ pub set_found : (recs : List Rec) (r : ℕ) (x : Rec) → found recs r ≡ x →
 set_found recs r x e = sym (ap (set recs r) (sym e) ∙ set-get_or recs r no_rec)
 
 -- a row has presence and its columns
-cells_length : (n : ℕ) (o : Option (List ℕ)) → RowHas n o → length (cells_of n o) ≡ n + 1
+pub cells_length : (n : ℕ) (o : Option (List ℕ)) → RowHas n o → length (cells_of n o) ≡ n + 1
 cells_length n None h = let z : length (replicate {A = ℕ} n 0) ≡ n = length-replicate n 0 in omega arith
 cells_length n (Some row) h = omega arith
 
@@ -64,9 +64,10 @@ cells_length n (Some row) h = omega arith
 pub columns_fit : (tables : List Table) (recs : List Rec) (w : Write) (r : ℕ) (x : Rec) → RecordsFit tables recs → WriteFits tables w → r ≡ (install_of tables w).rec → r < length recs → found recs r ≡ x
     → (length x.cells ≡ columns_of tables w.table + 1) × (length (install_of tables w).row ≡ columns_of tables w.table + 1)
 columns_fit tables recs w r x fits f r_is l fx =
-    let placed : place_of (sizes_of tables) (install_of tables w).rec ≡ (w.table, w.key) = place_of_record (sizes_of tables) w.table w.key (rw (sizes_length tables) f.0) (rw (size_at tables w.table) f.1) in
-    (ap (λ (z : Rec). length z.cells) (sym fx) ∙ (fits.each r l).cells ∙ ap (λ n. columns_of tables (place_of (sizes_of tables) n).0 + 1) r_is ∙ ap (λ (q : ℕ × ℕ). columns_of tables q.0 + 1) placed,
-    cells_length (columns_of tables w.table) w.row f.2)
+    let placed : place_of (sizes_of tables) (install_of tables w).rec ≡ (w.table, w.key) = place_of_record (sizes_of tables) w.table w.key (rw (sizes_length tables) f.0) (rw (size_at tables w.table) f.1) in (
+      ap (λ (z : Rec). length z.cells) (sym fx) ∙ (fits.each r l).cells ∙ ap (λ n. columns_of tables (place_of (sizes_of tables) n).0 + 1) r_is ∙ ap (λ (q : ℕ × ℕ). columns_of tables q.0 + 1) placed,
+      cells_length (columns_of tables w.table) w.row f.2,
+    )
 
 module _ (tables : List Table) (c : Commit) (at : ℕ) (w : Write) (w_is : w ≡ get_or c.item.writes at w) (inside : at < length c.item.writes) where
   abbrev pub is : List Install

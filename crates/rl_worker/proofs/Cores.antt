@@ -130,9 +130,9 @@ pub acted : (s : Setting) (core : Core) (w e : ℕ) (p p' : Phase) (words words'
 acted s core w e p p' words words' told still at a =
     let m : acts.Moved = moved s w core.next (acts.phase_of core w) (get_or core.recs (target (acts.phase_of core w)) no_rec) in
     let m_is : m ≡ made s w e p words =
-        ap (λ (z : Phase). moved s w core.next z (get_or core.recs (target z) no_rec)) at.phase
-        ∙ ap (λ (rs : List Rec). moved s w core.next p (get_or rs (target p) no_rec)) at.recs
-        ∙ ap (λ n. moved s w n p (found words.records.items (target p))) at.next in
+    ap (λ (z : Phase). moved s w core.next z (get_or core.recs (target z) no_rec)) at.phase
+    ∙ ap (λ (rs : List Rec). moved s w core.next p (get_or rs (target p) no_rec)) at.recs
+    ∙ ap (λ n. moved s w n p (found words.records.items (target p))) at.next in
     let ev : m.event ≡ (made s w e p words).event = ap (λ (z : acts.Moved). z.event) m_is in
     let ph : m.phase ≡ p' = ap (λ (z : acts.Moved). z.phase) m_is ∙ sym a.phase in
     let none = plain s w (stamp_next e words) p (found words.records.items (target p)) still in

@@ -42,9 +42,9 @@ committed tables old new words words' was to d told item b old_is commits act at
       old_is = old_is;
       act = λ s.
           let a : IsAct s old.number old.epoch (phase_of tables old) (commit_phase tables to) words words' told =
-              subst (λ st. IsAct s old.number old.epoch (phase_of tables (record old { stage = st })) (commit_phase tables to) words words' told) (sym old_is)
-              (subst (λ n. IsAct s n old.epoch (commit_phase tables was) (commit_phase tables to) words words' told) mine.1
-              (subst (λ e. IsAct s was.item.worker e (commit_phase tables was) (commit_phase tables to) words words' told) mine.3 (act s))) in
+          subst (λ st. IsAct s old.number old.epoch (phase_of tables (record old { stage = st })) (commit_phase tables to) words words' told) (sym old_is)
+          (subst (λ n. IsAct s n old.epoch (commit_phase tables was) (commit_phase tables to) words words' told) mine.1
+          (subst (λ e. IsAct s was.item.worker e (commit_phase tables was) (commit_phase tables to) words words' told) mine.3 (act s))) in
           record { phase = a.phase; recs = a.recs; next = a.next; refused = a.refused; act = a.act; ended = refl };
       attempt = attempt;
       fits = fits;

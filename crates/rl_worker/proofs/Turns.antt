@@ -234,17 +234,17 @@ module _ (tables : List Table) (s : Setting) (old : Worker) (c : Commit) (i : c.
       × (passed s old.number (passed s old.number (Storing c.item.index (packed c.item.stamp) stored (drop at (installs tables c)))) ≡ phase_of tables (finished old (record c { part = part.Storing at stored })))
       × (either (over_item (record c { part = part.Storing at stored })) (decided_item (finished old (record c { part = part.Storing at stored }))) ≡ Some c.item)
   storing at stored f = elim (eqb_tells at (length c.item.writes)) [
-      | inl e ↦ (
-          let n = installs_length tables c in
-          let none : drop at (installs tables c) ≡ [] = drop_all at (installs tables c) (omega (arith, e.1)) in
-          (rw (e.0, none) (ap Rest (sym (add-one c.item.index) ∙ ap (λ k. k + 1) i)), rw (e.0, none) (ap Rest (sym (add-one c.item.index) ∙ ap (λ k. k + 1) i)), rw e.0 refl))
-      | inr e ↦ (
-          let n = installs_length tables c in
-          let more : at < length (installs tables c) = omega (arith, e.1) in
-          let stay = some_left (installs tables c) at (λ ys. passing (Storing c.item.index (packed c.item.stamp) stored ys) ≡ false) more (λ y ys. refl) in
-          let k = not_passed s old.number (Storing c.item.index (packed c.item.stamp) stored (drop at (installs tables c))) stay in
-          (rw e.0 k.0, rw e.0 (ap (passed s old.number) k.0 ∙ k.0), rw e.0 refl))
-    ]
+    | inl e ↦ (
+        let n = installs_length tables c in
+        let none : drop at (installs tables c) ≡ [] = drop_all at (installs tables c) (omega (arith, e.1)) in
+        (rw (e.0, none) (ap Rest (sym (add-one c.item.index) ∙ ap (λ k. k + 1) i)), rw (e.0, none) (ap Rest (sym (add-one c.item.index) ∙ ap (λ k. k + 1) i)), rw e.0 refl))
+    | inr e ↦ (
+        let n = installs_length tables c in
+        let more : at < length (installs tables c) = omega (arith, e.1) in
+        let stay = some_left (installs tables c) at (λ ys. passing (Storing c.item.index (packed c.item.stamp) stored ys) ≡ false) more (λ y ys. refl) in
+        let k = not_passed s old.number (Storing c.item.index (packed c.item.stamp) stored (drop at (installs tables c))) stay in
+        (rw e.0 k.0, rw e.0 (ap (passed s old.number) k.0 ∙ k.0), rw e.0 refl))
+  ]
 
   refusing : (at held : ℕ) → at ≤ held → held ≤ length c.item.writes
       → (passed s old.number (passed s old.number (Refusing c.item.index (drop at (take held (installs tables c))))) ≡ phase_of tables (finished old (record c { part = part.Refusing at held })))
@@ -255,15 +255,15 @@ module _ (tables : List Table) (s : Setting) (old : Worker) (c : Commit) (i : c.
       let n = installs_length tables c in
       let t = length-take-le held (installs tables c) (omega (arith, g)) in
       elim (eqb_tells at held) [
-      | inl e ↦ (
-          let none : drop at (take held (installs tables c)) ≡ [] = drop_all at (take held (installs tables c)) (omega (arith, e.1)) in
-          (rw (e.0, none) (ap Rest i), rw none refl, refl, rw e.0 refl))
-      | inr e ↦ (
-          let stay = some_left (take held (installs tables c)) at (λ ys. passing (Refusing c.item.index ys) ≡ false) (omega (arith, e.1)) (λ y ys. refl) in
-          let p : Phase = Refusing c.item.index (drop at (take held (installs tables c))) in
-          let k = not_passed s old.number p stay in
-          (rw e.0 (ap (passed s old.number) k.0 ∙ k.0), ap (wins old.number) k.0 ∙ k.1, k.1, rw e.0 refl))
-    ]
+        | inl e ↦ (
+            let none : drop at (take held (installs tables c)) ≡ [] = drop_all at (take held (installs tables c)) (omega (arith, e.1)) in
+            (rw (e.0, none) (ap Rest i), rw none refl, refl, rw e.0 refl))
+        | inr e ↦ (
+            let stay = some_left (take held (installs tables c)) at (λ ys. passing (Refusing c.item.index ys) ≡ false) (omega (arith, e.1)) (λ y ys. refl) in
+            let p : Phase = Refusing c.item.index (drop at (take held (installs tables c))) in
+            let k = not_passed s old.number p stay in
+            (rw e.0 (ap (passed s old.number) k.0 ∙ k.0), ap (wins old.number) k.0 ∙ k.1, k.1, rw e.0 refl))
+      ]
 
   comes : (p : Part) → PartFits (record c { part = p }) p → Comes tables s old (record c { part = p })
   comes (part.Locking held) f = record { phase = refl; first = refl; second = refl; kept = λ h. absurd (false≢true h) }
@@ -283,26 +283,26 @@ module _ (tables : List Table) (s : Setting) (old : Worker) (c : Commit) (i : c.
       no_second [] = refl
       no_second (y ∷ ys) = refl
   comes (part.Validating done) f = elim (eqb_tells done (length c.reads.0)) [
-      | inl e ↦ (
-          let none : drop done c.reads.0 ≡ [] = drop_all done c.reads.0 (omega (arith, e.1)) in
-          let st = storing 0 0 (omega arith) in
-          record {
-            phase = rw (none, e.0) st.0;
-            first = rw (none, e.0) (won_is ∙ ap (option_map (core_item tables)) (sym st.2));
-            second = rw none refl;
-            kept = λ h. absurd (false≢true h);
-          })
-      | inr e ↦ (
-          let stay = some_left c.reads.0 done (λ ys. passing (Validating c.item.index (packed c.item.stamp) (take done c.reads.0) ys (c.item.reply, c.item.writes) (installs tables c)) ≡ false) (omega (arith, e.1, f)) (λ y ys. refl) in
-          let p : Phase = Validating c.item.index (packed c.item.stamp) (take done c.reads.0) (drop done c.reads.0) (c.item.reply, c.item.writes) (installs tables c) in
-          let k = not_passed s old.number p stay in
-          record {
-            phase = rw e.0 (ap (passed s old.number) k.0 ∙ k.0);
-            first = rw e.0 k.1;
-            second = ap (wins old.number) k.0 ∙ k.1;
-            kept = λ h. absurd (false≢true h);
-          })
-    ]
+    | inl e ↦ (
+        let none : drop done c.reads.0 ≡ [] = drop_all done c.reads.0 (omega (arith, e.1)) in
+        let st = storing 0 0 (omega arith) in
+        record {
+          phase = rw (none, e.0) st.0;
+          first = rw (none, e.0) (won_is ∙ ap (option_map (core_item tables)) (sym st.2));
+          second = rw none refl;
+          kept = λ h. absurd (false≢true h);
+        })
+    | inr e ↦ (
+        let stay = some_left c.reads.0 done (λ ys. passing (Validating c.item.index (packed c.item.stamp) (take done c.reads.0) ys (c.item.reply, c.item.writes) (installs tables c)) ≡ false) (omega (arith, e.1, f)) (λ y ys. refl) in
+        let p : Phase = Validating c.item.index (packed c.item.stamp) (take done c.reads.0) (drop done c.reads.0) (c.item.reply, c.item.writes) (installs tables c) in
+        let k = not_passed s old.number p stay in
+        record {
+          phase = rw e.0 (ap (passed s old.number) k.0 ∙ k.0);
+          first = rw e.0 k.1;
+          second = ap (wins old.number) k.0 ∙ k.1;
+          kept = λ h. absurd (false≢true h);
+        })
+  ]
     where
       won_is : Some (record { stamp = packed c.item.stamp; worker = old.number; index = c.item.index; answer = (c.item.reply, c.item.writes); writes = installs tables c }) ≡ option_map (core_item tables) (Some c.item)
       won_is = ap (λ k. Some (record { stamp = packed c.item.stamp; worker = k; index = c.item.index; answer = (c.item.reply, c.item.writes); writes = installs tables c })) (sym w_is)

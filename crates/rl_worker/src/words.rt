@@ -1,6 +1,7 @@
 //! The records of an open leader.
 
 ghost use Rattle.std.specs.Prelude.{◌≡◌, ◌*◌, ◌+◌, ◌^◌, ◌<◌, ◌≤◌, IfOk, length, sum, All, Some, None, ◌==◌, if◌then◌else◌};
+ghost use Rattle.rl_value.specs.Fits.{RowsFit};
 ghost use Rattle.rl_tables.specs.Numbers.{sizes_of};
 ghost use Rattle.rl_worker.specs.Opening.{opening_recs};
 ghost use Rattle.rl_worker.specs.Phases.{other};
@@ -42,9 +43,12 @@ impl Words {
         stamps: &Stamps,
     ) -> Result<Words, Memory>
         requires layout { layout.now ≡ sizes_of schema.now }
+        requires rows { RowsFit schema.now map.now }
         requires stamps { length stamps.now ≡ sum layout.now }
+        requires earlier { All (λ stamp. stamp < 2 ^ 60) stamps.now }
         ensures records { IfOk result (λ words. words.records.items ≡ opening_recs schema.now map.now stamps.now) }
         ensures next { IfOk result (λ words. words.next ≡ 2) }
+        ensures fits { IfOk result (λ words. RecordsFit schema.now words.records.items) }
     {
         let count = layout.count();
         let mut records = Vec::with_capacity(alloc, count as usize)?;

@@ -237,8 +237,12 @@ impl Worker {
         };
         let rec = reading.next.rec;
         let word = words.records[rec as usize].word();
-        let (stage, refused) =
-            self.after_confirm(reading.confirm(words, schema, txn), layout, schema, txn);
+        let (stage, refused) = self.after_confirm(
+            reading.confirm(words, schema, txn),
+            layout,
+            schema,
+            txn,
+        );
         self.stage = stage;
         Moved::by(Act::Confirm { rec, word }, refused)
     }

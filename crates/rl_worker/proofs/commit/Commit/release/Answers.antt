@@ -17,5 +17,5 @@ returns-clause-act c =
     let there : c.record-rec.result < length recs = omega (arith, c.record-rec.ensures.there, c.requires.records.count, ap sum c.requires.layout) in
     let fx = found_is recs c.record-rec.result x there c.index_mut-record.ensures.value in
     λ s. releases c.args.schema.now c.args.self.now c.args.place w w_is inside s c.args.words.now _ x c.record-rec.result r_is fx c.by.result refl
-        c.args.held c.requires.more c.requires.part (subst (λ p. PartFits c.args.self.now p) c.requires.part c.requires.fits.part).1 refl
-        (c.by.ensures ∙ ap (λ n. record { act = act.Close c.record-rec.result n; refused = None; ended = None }) c.word_of-word.ensures)
+    c.args.held c.requires.more c.requires.part (subst (λ p. PartFits c.args.self.now p) c.requires.part c.requires.fits.part).1 refl
+    (c.by.ensures ∙ ap (λ n. record { act = act.Close c.record-rec.result n; refused = None; ended = None }) c.word_of-word.ensures)

@@ -34,8 +34,8 @@ returns-then-stored-columns-clause-act c =
     let wide = columns_fit c.args.schema.now recs w c.record-rec.result x c.requires.records f r_is there fx in
     let few : c.args.stored ≤ columns_of c.args.schema.now w.table = omega (arith, c.columns.ensures.columns, c.if-stored-columns.true) in
     λ s. stores c.args.schema.now c.args.self.now c.args.place w w_is c.requires.more c.args.stored c.requires.part s c.args.words.now _ x c.record-rec.result r_is fx c.by.result refl
-        c.cell_of-value.result (omega (arith, wide.1, few)) (c.cell_of-value.ensures (columns_of c.args.schema.now w.table) f.2 few)
-        (ap (λ cs. set recs c.record-rec.result (record x { cells = cs })) c.set.ensures) c.by.ensures
+    c.cell_of-value.result (omega (arith, wide.1, few)) (c.cell_of-value.ensures (columns_of c.args.schema.now w.table) f.2 few)
+    (ap (λ cs. set recs c.record-rec.result (record x { cells = cs })) c.set.ensures) c.by.ensures
 
 pub returns-clause-act : goal.returns-clause-act
 returns-clause-act c =
@@ -49,6 +49,6 @@ returns-clause-act c =
     let fx = found_is recs c.record-rec.result x there c.index_mut-record.ensures.value in
     let wide = columns_fit c.args.schema.now recs w c.record-rec.result x c.requires.records f r_is there fx in
     λ s. closes c.args.schema.now c.args.self.now c.args.place w w_is c.requires.more c.args.stored c.requires.part s c.args.words.now _ x c.record-rec.result r_is fx c.by-2.result refl
-        (omega (arith, wide.1, c.columns.ensures.columns, c.if-stored-columns.false))
-        (ap (λ n. set recs c.record-rec.result (record x { stamp = n; holder = None })) c.pack-stamp.ensures.packed)
-        (c.by-2.ensures ∙ ap (λ n. record { act = act.Close c.record-rec.result n; refused = None; ended = None }) (c.word_of.ensures ∙ ap (λ n. 2 * n) c.pack-stamp.ensures.packed))
+    (omega (arith, wide.1, c.columns.ensures.columns, c.if-stored-columns.false))
+    (ap (λ n. set recs c.record-rec.result (record x { stamp = n; holder = None })) c.pack-stamp.ensures.packed)
+    (c.by-2.ensures ∙ ap (λ n. record { act = act.Close c.record-rec.result n; refused = None; ended = None }) (c.word_of.ensures ∙ ap (λ n. 2 * n) c.pack-stamp.ensures.packed))

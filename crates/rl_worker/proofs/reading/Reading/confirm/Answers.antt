@@ -25,7 +25,7 @@ returns-in-None-clause-asking c =
     let self = c.args.self in
     let place : awaited self.eval ≡ place_of (sizes_of tables) self.next.rec = c.requires.reading.place in
     let fresh : is_new (overlay_of tables self.reads.0) (place_of (sizes_of tables) self.next.rec) ≡ true =
-        ap (λ m. is_new m (place_of (sizes_of tables) self.next.rec)) (sym c.requires.reading.known) ∙ ap (is_new (known self.eval)) (sym place) ∙ c.requires.reading.awaits.fresh in
+    ap (λ m. is_new m (place_of (sizes_of tables) self.next.rec)) (sym c.requires.reading.known) ∙ ap (is_new (known self.eval)) (sym place) ∙ c.requires.reading.awaits.fresh in
     record {
       eval = c.counted.ensures.eval tables c.args.txn.now c.requires.reading.eval;
       known = c.counted.ensures.given ∙ ap (λ p. finite.insert (known self.eval) p (row_of self.next.row)) place ∙ ap (λ m. finite.insert m (place_of (sizes_of tables) self.next.rec) (row_of self.next.row)) c.requires.reading.known

@@ -9,6 +9,6 @@ pub returns-clause-reads : goal.returns-clause-reads
 returns-clause-reads c =
     let room : length c.self.inside.reads.items + 1 ≤ c.self.inside.reads.capacity = omega (arith, c.requires, ap (λ s. s.1) c.self.view_is) in
     let at : c.unwrap_or-at.result ≡ unwrap_or (position (λ y. nat_lt c.args.read.rec y.rec) c.self.inside.reads.items) (length c.self.inside.reads.items) =
-        c.unwrap_or-at.ensures ∙ ap (unwrap_or c.first_after.result) c.len.ensures.value ∙ ap (λ o. unwrap_or o (length c.self.inside.reads.items)) (c.first_after.ensures.place ∙ ap (position (λ y. nat_lt c.args.read.rec y.rec)) c.deref.ensures) in
+    c.unwrap_or-at.ensures ∙ ap (unwrap_or c.first_after.result) c.len.ensures.value ∙ ap (λ o. unwrap_or o (length c.self.inside.reads.items)) (c.first_after.ensures.place ∙ ap (position (λ y. nat_lt c.args.read.rec y.rec)) c.deref.ensures) in
     ok_gives c.insert-room_was_made.result (c.insert-room_was_made.ensures.succeeds room) c.insert-room_was_made.ensures.ok
     ∙ read_inserted c.args.read c.self.inside.reads.items c.unwrap_or-at.result at ∙ ap (λ s. with_read c.args.read s.0) c.self.view_is

@@ -19,8 +19,8 @@ returns-clause-act c =
     let there : reading.next.rec < length recs = omega (arith, fits.next.0, c.requires.records.count) in
     let fx = found_is recs reading.next.rec c.index.result.now there c.index.ensures in
     let told : ◌≡◌ {A = code.Moved} c.by.result (record { act = act.Confirm reading.next.rec (word (found recs reading.next.rec)); refused = result_err left; ended = None }) =
-        c.by.ensures ∙ ap (λ n. record { act = act.Confirm reading.next.rec n; refused = c.after_confirm-stage.result.1; ended = None }) (c.word-word.ensures ∙ ap word (sym fx))
-        ∙ ap (λ f. record { act = act.Confirm reading.next.rec (word (found recs reading.next.rec)); refused = f; ended = None }) c.after_confirm-stage.ensures.refused in
+    c.by.ensures ∙ ap (λ n. record { act = act.Confirm reading.next.rec n; refused = c.after_confirm-stage.result.1; ended = None }) (c.word-word.ensures ∙ ap word (sym fx))
+    ∙ ap (λ f. record { act = act.Confirm reading.next.rec (word (found recs reading.next.rec)); refused = f; ended = None }) c.after_confirm-stage.ensures.refused in
     record {
       left = left;
       act = λ s w e. subst (λ z. IsAct s w e z (confirmed_phase self.index left) c.args.words.now c.args.words.now c.by.result) (sym (ap (stage_phase tables self.index) was))

@@ -19,8 +19,8 @@ returns-in-Read-clause-fits c =
     let t = c.in-Read.table in
     let k = c.in-Read.key in
     let placed : place_of (sizes_of tables) c.record.result ≡ (t, k) =
-        ap (place_of (sizes_of tables)) (c.record.ensures.number ∙ ap (λ l. record_of l t k) c.requires.layout)
-        ∙ place_of_record (sizes_of tables) t k (rw (sizes_length tables) c.in-Read.ensures.there.0) (rw (size_at tables t) c.in-Read.ensures.there.1) in
+    ap (place_of (sizes_of tables)) (c.record.ensures.number ∙ ap (λ l. record_of l t k) c.requires.layout)
+    ∙ place_of_record (sizes_of tables) t k (rw (sizes_length tables) c.in-Read.ensures.there.0) (rw (size_at tables t) c.in-Read.ensures.there.1) in
     record {
       eval = c.in-Read.ensures.of;
       known = c.in-Read.ensures.known ∙ c.requires.asking.known;
@@ -48,11 +48,16 @@ returns-in-Ended-clause-fits c =
     let know : known c.advance.new.self ≡ overlay_of tables reads = c.in-Ended.ensures.known ∙ c.requires.asking.known in
     let is = c.commit.ensures.run tables c.args.txn.now (rows_of (overlay_of tables reads)) c.in-Ended.ensures.of (subst (λ m. HasRows m (rows_of (overlay_of tables reads))) (sym know) (has_rows_of (overlay_of tables reads))) in
     let epoch = ap (λ s. s.epoch) c.commit.ensures.stamp in
-    let seq = ap (λ s. s.seq) c.commit.ensures.stamp in
-    (record {
-      reads = subst (λ xs. All (ReadFits tables) xs) (sym (ap (λ s. s.0) c.commit.ensures.reads)) c.requires.asking.reads;
-      writes = writes_fit tables c.args.txn.now reads c.commit.result c.requires.txn is;
-      epoch = omega (arith, epoch, c.requires.epoch);
-      seq = omega (arith, seq);
-      part = subst (PartFits c.commit.result) (sym c.commit.ensures.part) (omega arith);
-    }, c.commit.ensures.worker, c.commit.ensures.index, epoch, subst (HasMore c.commit.result) (sym c.commit.ensures.part) tt)
+    let seq = ap (λ s. s.seq) c.commit.ensures.stamp in (
+      record {
+        reads = subst (λ xs. All (ReadFits tables) xs) (sym (ap (λ s. s.0) c.commit.ensures.reads)) c.requires.asking.reads;
+        writes = writes_fit tables c.args.txn.now reads c.commit.result c.requires.txn is;
+        epoch = omega (arith, epoch, c.requires.epoch);
+        seq = omega (arith, seq);
+        part = subst (PartFits c.commit.result) (sym c.commit.ensures.part) (omega arith);
+      },
+      c.commit.ensures.worker,
+      c.commit.ensures.index,
+      epoch,
+      subst (HasMore c.commit.result) (sym c.commit.ensures.part) tt,
+    )
