@@ -1,2 +1,3 @@
 pub mod ListsLemmas
+pub mod NumberLemmas
 pub mod Turns

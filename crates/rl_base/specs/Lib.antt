@@ -1,4 +1,5 @@
 pub mod Epochs
 pub mod Lists
+pub mod Numbers
 pub mod Stamps
 pub mod Words
