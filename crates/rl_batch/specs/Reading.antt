@@ -14,9 +14,11 @@ use Rattle.rl_txn.specs.declared.batch.Batch.{Batch}
 use Rattle.rl_txn.specs.declared.batch.Batch.TheVariants.{Items, Idle, Opened}
 use Rattle.rl_batch.specs.Ranges.{most_writes}
 
--- a number that is below the least that may come is out of order, and that is a fault of the field at these bytes
-abbrev pub from_least : ℕ → List ℕ → ℕ × List ℕ → Result (ℕ × List ℕ) Fault
-from_least least field x = if nat_lt x.0 least then Err (fault_at field Order) else Ok x
+-- a number of n bytes from low to high; below the least that may come it is out of order, a fault of the field at other bytes
+unfoldable pub rising : ℕ → ℕ → ℕ → ℕ → List ℕ → List ℕ → Result (ℕ × List ℕ) Fault
+rising n low high least field bytes = do
+  x ← within n low high bytes
+  if nat_lt x.0 least then Err (fault_at field Order) else Ok x
 
 -- up to `most` numbers, behind how many they are
 unfoldable pub numbers : ℕ → List ℕ → Result (List ℕ × List ℕ) Fault
@@ -42,10 +44,8 @@ least_key least table = if table == least.0 then least.1 else 0
 -- a write whose place may come; where it may not, that is a fault of its table
 unfoldable pub write : ℕ × ℕ → List ℕ → Result (Write × List ℕ) Fault
 write least bytes = do
-  table ← within 1 0 15 bytes
-  table ← from_least least.0 bytes table
-  key ← within 4 0 65535 table.1
-  key ← from_least (least_key least table.0) bytes key
+  table ← rising 1 0 15 least.0 bytes bytes
+  key ← rising 4 0 65535 (least_key least table.0) bytes table.1
   row ← row key.1
   Ok (record { table = table.0; key = key.0; row = row.0 }, row.1)
 
@@ -66,8 +66,7 @@ writes most bytes = do
 -- an item of an epoch and a worker, with a seq that may come
 unfoldable pub item : ℕ → ℕ → ℕ → List ℕ → Result (Item × List ℕ) Fault
 item epoch worker least bytes = do
-  seq ← within 8 2 (2 ^ 40 - 2) bytes
-  seq ← from_least least bytes seq
+  seq ← rising 8 2 (2 ^ 40 - 2) least bytes bytes
   index ← within 4 1 8192 seq.1
   end ← within 1 0 64 index.1
   outs ← numbers 64 end.1

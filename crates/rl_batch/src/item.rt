@@ -67,7 +67,7 @@ fn series_at(
 }
 
 /// An item with a seq from the least on, and the bytes after it.
-#[tactic(auto, unfolding(crate::specs::Reading::item))]
+#[tactic(auto, unfolding(crate::specs::Reading::item, crate::specs::Reading::rising))]
 fn item_at(
     alloc: Global,
     shared: Shared,

@@ -5,7 +5,7 @@ ghost use Rattle.rl_fields.specs.Answers.{Says, Gives};
 ghost use Rattle.rl_fields.specs.Fields.{series};
 ghost use Rattle.rl_batch.specs.Ranges.{WriteInRange};
 ghost use Rattle.rl_batch.specs.Spelling.{write_bytes, writes_bytes};
-ghost use Rattle.rl_batch.specs.Reading.{from_least, least_key, place_after, write, writes};
+ghost use Rattle.rl_batch.specs.Reading.{least_key, place_after, write, writes};
 
 use crate::row::{cells_of, push_numbers, row_at};
 use rl_base::flaw::Flaw;
@@ -46,7 +46,7 @@ fn series_at(alloc: Global, count: u8, bytes: &[u8]) -> Result<(Writes, &[u8]), 
 }
 
 /// A write at a place from the least on, and the bytes after it.
-#[tactic(auto, unfolding(crate::specs::Reading::write))]
+#[tactic(auto, unfolding(crate::specs::Reading::write, crate::specs::Reading::rising))]
 fn write_at(least: Place, bytes: &[u8]) -> Result<(Write, &[u8]), Fault>
     ensures read { Says (λ x. (x.0, x.1.now)) result (write least bytes.now) }
     ensures key { IfOk result (λ x. x.0.key ≤ 65535) }
