@@ -184,19 +184,21 @@ items_takes bytes x fits e =
     let four = Takes-then bytes ((big_bytes 1 a.0.0 ++ big_bytes 4 b.0.0) ++ big_bytes 1 c.0.0) c.0.1 (flat_map item_bytes xs) x.1 three each.0 in
     let four' = subst (λ (k : ℕ). Takes bytes (((big_bytes 1 k ++ big_bytes 4 b.0.0) ++ big_bytes 1 c.0.0) ++ flat_map item_bytes xs) x.1) (sym each.1) four in
     let four'' = subst (λ (k : ℕ). Takes bytes (((big_bytes 1 (length xs) ++ big_bytes 4 k) ++ big_bytes 1 c.0.0) ++ flat_map item_bytes xs) x.1) (sym epoch-is) four' in
-    let whole = subst (λ (k : ℕ). Takes bytes (((big_bytes 1 (length xs) ++ big_bytes 4 (epoch_of xs)) ++ big_bytes 1 k) ++ flat_map item_bytes xs) x.1) (sym worker-is) four'' in
-    (whole, record {
-      some = some;
-      few = omega (arith, each.1, count.2);
-      epoch_low = rw epoch-is epoch.1;
-      epoch_high = rw epoch-is epoch.2;
-      worker_low = rw worker-is worker.1;
-      worker_high = rw worker-is worker.2;
-      one_epoch = rw epoch-is (All-from_recursion (λ x. x.stamp.epoch ≡ b.0.0) xs own.0);
-      one_worker = rw worker-is (All-from_recursion (λ x. x.worker ≡ c.0.0) xs own.1);
-      each = All-from_recursion ItemInRange xs own.2;
-      rising = rise.1;
-    })
+    let whole = subst (λ (k : ℕ). Takes bytes (((big_bytes 1 (length xs) ++ big_bytes 4 (epoch_of xs)) ++ big_bytes 1 k) ++ flat_map item_bytes xs) x.1) (sym worker-is) four'' in (
+      whole,
+      record {
+        some = some;
+        few = omega (arith, each.1, count.2);
+        epoch_low = rw epoch-is epoch.1;
+        epoch_high = rw epoch-is epoch.2;
+        worker_low = rw worker-is worker.1;
+        worker_high = rw worker-is worker.2;
+        one_epoch = rw epoch-is (All-from_recursion (λ x. x.stamp.epoch ≡ b.0.0) xs own.0);
+        one_worker = rw worker-is (All-from_recursion (λ x. x.worker ≡ c.0.0) xs own.1);
+        each = All-from_recursion ItemInRange xs own.2;
+        rising = rise.1;
+      },
+    )
 
 all_late : (xs : List Item) → AllByRecursion (IsLate 0) xs
 all_late [] = tt

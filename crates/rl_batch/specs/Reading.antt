@@ -71,13 +71,16 @@ item epoch worker least bytes = do
   end ← within 1 0 64 index.1
   outs ← numbers 64 end.1
   writes ← writes (most_writes (end_of end.0)) outs.1
-  Ok (record {
-    stamp = record { epoch = epoch; seq = seq.0 };
-    worker = worker;
-    index = index.0;
-    reply = record { outs = outs.0; end = end_of end.0 };
-    writes = writes.0
-  }, writes.1)
+  Ok (
+    record {
+      stamp = record { epoch = epoch; seq = seq.0 };
+      worker = worker;
+      index = index.0;
+      reply = record { outs = outs.0; end = end_of end.0 };
+      writes = writes.0;
+    },
+    writes.1,
+  )
 
 -- the least seq after that of an item
 abbrev pub seq_after : Item → ℕ
