@@ -1,5 +1,5 @@
 -- Batches: what is read is spelled so and in range, and what is spelled so is read again.
-use Rattle.std.proofs.Common.{◌≡◌, ℕ, ◌-◌, ◌^◌, ◌<◌, Bool, true, false, cond, List, [], ◌∷◌, ◌++◌, All, Result, Ok, Err, refl, sym, ap, subst, ◌∙◌, append_assoc, arith, ◌⊎◌, inl, inr}
+use Rattle.std.proofs.Common.{◌≡◌, ℕ, ◌-◌, ◌^◌, ◌<◌, Bool, true, false, cond, List, [], ◌∷◌, ◌++◌, Result, Ok, Err, refl, sym, ap, subst, ◌∙◌, arith, ◌⊎◌, inl, inr}
 use Rattle.std.specs.Prelude.{IfOk, ◌==◌}
 use Rattle.std.proofs.lemmas.Bool.{eqb-true}
 use Rattle.std.proofs.lemmas.List.{append-nil}
@@ -16,11 +16,10 @@ use Rattle.rl_fields.specs.Faults.{fault_at, placed}
 use Rattle.rl_fields.specs.Fields.{◌>>=◌, within, alone}
 use Rattle.rl_fields.proofs.FieldLaws.{IsBytes-rest, bind_ok, ok_is, Takes, Takes-then, within_takes, within_again, alone_takes}
 use Rattle.rl_batch.specs.declared.batch_error.BatchError.{BatchError}
-use Rattle.rl_batch.specs.declared.batch_error.BatchError.TheVariants as errors
 use Rattle.rl_batch.specs.Answers.{Answers}
 use Rattle.rl_batch.specs.Spelling.{items_bytes, mark_bytes, batch_bytes}
 use Rattle.rl_batch.specs.Ranges.{MarkInRange, BatchInRange, HasWords}
-use Rattle.rl_batch.specs.Reading.{items, mark, fields, batch, whole, read_batch}
+use Rattle.rl_batch.specs.Reading.{items, mark, batch, whole, read_batch}
 use Rattle.rl_batch.proofs.ItemLaws.{items_takes, items_again}
 
 -- ---- marks

@@ -1,11 +1,11 @@
 -- Numbers, rows and writes: what is read is spelled so and in range, and what is spelled so is read again.
-use Rattle.std.proofs.Common.{◌≡◌, ℕ, zero, suc, ◌+◌, ◌^◌, ◌<◌, ◌≤◌, Bool, true, false, cond, ltb, eqb, List, [], ◌∷◌, ◌++◌, length, Option, Some, None, Result, Ok, Err, refl, sym, ap, subst, ◌∙◌, append_assoc, arith}
+use Rattle.std.proofs.Common.{◌≡◌, ℕ, ◌+◌, ◌^◌, ◌<◌, ◌≤◌, cond, ltb, eqb, List, [], ◌∷◌, ◌++◌, length, Option, Some, None, Result, Ok, Err, refl, sym, ap, subst, ◌∙◌, append_assoc, arith}
 use Rattle.std.specs.Prelude.{IfSome, AllPairs}
 use Rattle.std.specs.declared.cmp.Ordering.TheVariants.{Less}
 use Rattle.std.specs.List.{flat_map, AllByRecursion}
 use Rattle.std.proofs.lemmas.Bool.{ltb-false, le-ltb}
 use Rattle.std.proofs.lemmas.Bool.Decides.{nat_tests}
-use Rattle.std.proofs.lemmas.List.Elements.{All-from_recursion, recursion_from_All}
+use Rattle.std.proofs.lemmas.List.Elements.{recursion_from_All}
 use Rattle.byteorder.specs.Endian.{big_bytes}
 use Rattle.rl_base.specs.Numbers.{IsBytes}
 use Rattle.rl_base.specs.declared.flaw.Flaw.TheVariants.{Order}
@@ -15,7 +15,7 @@ use Rattle.rl_fields.specs.declared.fault.Fault.{Fault}
 use Rattle.rl_fields.specs.Faults.{fault_at}
 use Rattle.rl_fields.specs.Fields.{◌>>=◌, number, within, series, several}
 use Rattle.rl_fields.proofs.FieldLaws.{bind_ok, guard_not, ok_is, Takes, Takes-then, number_takes, number_again, within_takes, within_again}
-use Rattle.rl_fields.proofs.SeriesLaws.{Chain, IsReader, series_takes, series_again, several_takes, several_again}
+use Rattle.rl_fields.proofs.SeriesLaws.{IsReader, series_takes, series_again, several_takes, several_again}
 use Rattle.rl_batch.specs.Spelling.{numbers_bytes, cells_of, write_bytes, writes_bytes}
 use Rattle.rl_batch.specs.Ranges.{WriteInRange, IsBelow, AreWords, WriteHasWords}
 use Rattle.rl_batch.specs.Reading.{rising, numbers, row_of, row, least_key, write, place_after, writes}

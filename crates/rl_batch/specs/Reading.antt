@@ -1,5 +1,5 @@
 -- What bytes that should be a batch say from left to right, or the first fault.
-use Rattle.std.specs.Prelude.{ℕ, zero, suc, ◌+◌, ◌-◌, ◌^◌, ◌&&◌, ◌==◌, nat_lt, List, [], ◌∷◌, Option, Some, None, Result, Ok, Err, if◌then◌else◌}
+use Rattle.std.specs.Prelude.{ℕ, zero, suc, ◌+◌, ◌-◌, ◌^◌, ◌==◌, nat_lt, List, [], ◌∷◌, Option, Some, None, Result, Ok, Err, if◌then◌else◌}
 use Rattle.rl_base.specs.declared.flaw.Flaw.{Flaw}
 use Rattle.rl_base.specs.declared.flaw.Flaw.TheVariants.{Kind, Short, Order}
 use Rattle.rl_base.specs.declared.stamp.Stamp.{Stamp}

@@ -1,13 +1,12 @@
 -- What a reader of a field takes is spelled so, and what is spelled so is read again.
-use Rattle.std.proofs.Common.{◌≡◌, ℕ, zero, suc, ◌+◌, ◌^◌, ◌<◌, ◌≤◌, Bool, true, false, cond, ltb, leb, ◌&&◌, List, [], ◌∷◌, ◌++◌, length, get_or, take, drop, Result, Ok, Err, refl, sym, ap, subst, ◌∙◌, append_assoc, arith, inl, inr}
-use Rattle.std.proofs.lemmas.Bool.{cases_lt, ltb-false, le-ltb, leb-true, le-leb}
-use Rattle.std.proofs.lemmas.List.{take_at, drop_at, take-append-drop, length-append, length-take, get_or-drop, get_or-take, get_or_past}
+use Rattle.std.proofs.Common.{◌≡◌, ℕ, suc, ◌+◌, ◌^◌, ◌<◌, ◌≤◌, Bool, true, false, cond, ltb, leb, ◌&&◌, List, [], ◌∷◌, ◌++◌, length, take, drop, Result, Ok, Err, refl, sym, ap, subst, ◌∙◌, append_assoc, arith}
+use Rattle.std.proofs.lemmas.Bool.{ltb-false, le-ltb, leb-true, le-leb}
+use Rattle.std.proofs.lemmas.List.{take_at, drop_at, take-append-drop, length-append, length-take, get_or-drop}
 use Rattle.byteorder.specs.Endian.{big_number, big_bytes}
 use Rattle.byteorder.specs.Numbers.{big_from-lt, length-bytes_high_first, big_number-reads_back}
 use Rattle.rl_base.specs.Numbers.{IsBytes}
 use Rattle.rl_base.proofs.NumberLemmas.{big_bytes-number}
-use Rattle.rl_base.specs.declared.flaw.Flaw.TheVariants.{Short, Range, Extra}
-use Rattle.rl_fields.specs.declared.fault.Fault.{Fault}
+use Rattle.rl_base.specs.declared.flaw.Flaw.TheVariants.{Short, Range}
 use Rattle.rl_fields.specs.Faults.{fault_at}
 use Rattle.rl_fields.specs.Fields.{◌>>=◌, number, within, string, alone}
 

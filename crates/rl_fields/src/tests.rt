@@ -28,7 +28,31 @@ fn fields_are_read_as_they_were_written(rt: HostRuntime) -> Result<(), Fail> {
 #[test]
 fn faults_tell_what_was_left(rt: HostRuntime) {
     let bytes = [0, 0, 1, 2, 9];
-    assert!(rt; matches!(u32_within(0, 257, &bytes), Err(Fault { left: 5, kind: Flaw::Range })));
-    assert!(rt; matches!(u64_within(0, 1, &bytes), Err(Fault { left: 5, kind: Flaw::Short })));
-    assert!(rt; matches!(alone((), &bytes[4..]), Err(Fault { left: 1, kind: Flaw::Extra })));
+    assert!(rt;
+        matches!(
+            u32_within(0, 257, &bytes),
+            Err(Fault {
+                left: 5,
+                kind: Flaw::Range
+            })
+        )
+    );
+    assert!(rt;
+        matches!(
+            u64_within(0, 1, &bytes),
+            Err(Fault {
+                left: 5,
+                kind: Flaw::Short
+            })
+        )
+    );
+    assert!(rt;
+        matches!(
+            alone((), &bytes[4..]),
+            Err(Fault {
+                left: 1,
+                kind: Flaw::Extra
+            })
+        )
+    );
 }
