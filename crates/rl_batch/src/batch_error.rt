@@ -1,11 +1,7 @@
 //! Why bytes are no batch.
 
-ghost use Rattle.std.specs.Prelude.{◌≡◌};
-ghost use Rattle.rl_batch.specs.Answers.{error_of};
-
 use rl_base::flaw::Flaw;
 use rl_base::memory::Memory;
-use rl_fields::fault::ReadError;
 use thiserror::Error;
 
 /// Why some bytes were not read as a batch.
@@ -27,18 +23,5 @@ impl From<Memory> for BatchError {
 
     fn from(_e: Memory) -> BatchError {
         BatchError::Memory
-    }
-}
-
-/// The error with the place of its fault among all bytes, of which there are so many.
-pub fn placed(len: usize, e: ReadError) -> BatchError
-    ensures { result ≡ error_of len e }
-{
-    match e {
-        ReadError::Fault(fault) => BatchError::Fault {
-            at: len.saturating_sub(fault.left) as u64,
-            kind: fault.kind,
-        },
-        ReadError::Memory => BatchError::Memory,
     }
 }

@@ -3,12 +3,12 @@
 ghost use Rattle.std.specs.Prelude.{◌≡◌, IfOk, Ok};
 ghost use Rattle.rl_txn.specs.declared.batch.Batch.{Batch};
 ghost use Rattle.rl_fields.specs.Answers.{Says, Gives};
-ghost use Rattle.rl_batch.specs.Answers.{Answers};
+ghost use Rattle.rl_batch.specs.Answers.{Answers, error_of};
 ghost use Rattle.rl_batch.specs.Ranges.{BatchInRange, HasWords};
 ghost use Rattle.rl_batch.specs.Spelling.{batch_bytes};
 ghost use Rattle.rl_batch.specs.Reading.{mark, batch, whole, read_batch};
 
-use crate::batch_error::{BatchError, placed};
+use crate::batch_error::BatchError;
 use crate::item::{LAST_EPOCH, items_at};
 use rl_base::flaw::Flaw;
 use rl_base::stamp::Stamp;
@@ -46,6 +46,19 @@ fn read(alloc: Global, x: &[u8]) -> Result<Batch, BatchError>
     match whole(alloc, x) {
         Ok(batch) => Ok(batch),
         Err(e) => Err(placed(x.len(), e)),
+    }
+}
+
+/// The error with the place of its fault, counted from the first of so many bytes.
+fn placed(len: usize, e: ReadError) -> BatchError
+    ensures { result ≡ error_of len e }
+{
+    match e {
+        ReadError::Fault(fault) => BatchError::Fault {
+            at: len.saturating_sub(fault.left) as u64,
+            kind: fault.kind,
+        },
+        ReadError::Memory => BatchError::Memory,
     }
 }
 
