@@ -1,6 +1,6 @@
 use Rattle.std.proofs.lemmas.Result.{on_ok_weaker}
 use Rattle.byteorder.specs.Endian.{big_bytes}
-use Rattle.rl_batch.proofs.Appends.{appended}
+use Rattle.rl_fields.proofs.Appends.{appended}
 use Rattle.rl_batch.proofs.encode.push_mark.Goals as goal
 
 pub returns : goal.returns

@@ -1,5 +1,5 @@
 use Rattle.rl_batch.specs.Spelling.{item_bytes}
-use Rattle.rl_batch.proofs.Appends.{appended_more}
+use Rattle.rl_fields.proofs.Appends.{appended_more}
 use Rattle.rl_batch.proofs.item.push_items.Goals as goal
 
 pub loop-item-preserved : goal.loop-item-preserved
