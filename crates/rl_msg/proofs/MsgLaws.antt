@@ -1,5 +1,5 @@
 -- Messages: what is read is spelled so and in range, and what is spelled so is read again.
-use Rattle.std.proofs.Common.{◌≡◌, ℕ, ◌-◌, ◌^◌, ◌<◌, ◌≤◌, Bool, true, false, cond, ◌&&◌, leb, List, [], ◌∷◌, ◌++◌, length, map, All, Result, Ok, Err, refl, sym, ap, subst, ◌∙◌, append_assoc, arith, ◌⊎◌, inl, inr}
+use Rattle.std.proofs.Common.{◌≡◌, ℕ, ◌-◌, ◌^◌, ◌<◌, ◌≤◌, Bool, true, false, cond, ◌&&◌, leb, List, [], ◌∷◌, ◌++◌, length, map, Result, Ok, Err, refl, sym, ap, subst, ◌∙◌, append_assoc, arith, ◌⊎◌, inl, inr}
 use Rattle.std.specs.Prelude.{IfOk, ◌==◌}
 use Rattle.std.specs.List.{flat_map, zip, AllByRecursion}
 use Rattle.std.proofs.lemmas.Bool.{eqb-true, leb-true}
@@ -14,13 +14,12 @@ use Rattle.rl_base.specs.declared.flaw.Flaw.TheVariants.{Kind}
 use Rattle.rl_fields.specs.declared.fault.Fault.{Fault}
 use Rattle.rl_fields.specs.Faults.{fault_at, placed}
 use Rattle.rl_fields.specs.Fields.{◌>>=◌, within, string, several, alone}
-use Rattle.rl_fields.proofs.FieldLaws.{IsBytes-rest, bind_ok, guard_ok, ok_is, Takes, Takes-then, within_takes, within_again, string_takes, string_again, alone_takes}
+use Rattle.rl_fields.proofs.FieldLaws.{IsBytes-rest, bind_ok, ok_is, Takes, Takes-then, within_takes, within_again, string_takes, string_again, alone_takes}
 use Rattle.rl_fields.proofs.SeriesLaws.{several_takes, several_again}
 use Rattle.rl_msg.specs.declared.head.Head.{Head}
 use Rattle.rl_msg.specs.declared.msg.Msg.{Msg}
 use Rattle.rl_msg.specs.declared.msg.Msg.TheVariants.{Prepare, Promise, Sync, Accept, Ack, Known}
 use Rattle.rl_msg.specs.declared.msg_error.MsgError.{MsgError}
-use Rattle.rl_msg.specs.declared.msg_error.MsgError.TheVariants as errors
 use Rattle.rl_msg.specs.Answers.{Answers}
 use Rattle.rl_msg.specs.Spelling.{head_bytes, batch_bytes, log_bytes, stream_bytes, streams_bytes, place_bytes, msg_bytes}
 use Rattle.rl_msg.specs.Ranges.{HeadInRange, BatchInRange, LogInRange, StreamInRange, StreamsInRange, MsgInRange}

@@ -1,5 +1,5 @@
 -- The one spelling of each message, field by field. Numbers have one or four bytes, the highest first.
-use Rattle.std.specs.Prelude.{ℕ, List, [], ◌∷◌, ◌++◌, length}
+use Rattle.std.specs.Prelude.{ℕ, List, ◌∷◌, ◌++◌, length}
 use Rattle.std.specs.List.{flat_map, zip}
 use Rattle.byteorder.specs.Endian.{big_bytes}
 use Rattle.rl_msg.specs.declared.msg.Msg.{Msg}
