@@ -1,5 +1,9 @@
--- Lists of lists.
-use Rattle.std.specs.Prelude.{ℕ, List, [], ◌∷◌, ◌++◌, zero, suc}
+-- Parts of lists, and lists of lists.
+use Rattle.std.specs.Prelude.{◌≡◌, ℕ, List, [], ◌∷◌, ◌++◌, zero, suc}
+
+-- one list begins the other
+abbrev pub IsPrefix : {X : Type 0} → List X → List X → Type 0
+IsPrefix {X} xs ys = (rest : List X) × (xs ++ rest ≡ ys)
 
 -- the lists with one more element at the end of one of them
 abbrev pub with_last : {X : Type 0} → List (List X) → ℕ → X → List (List X)

@@ -9,6 +9,7 @@ pub mod limit;
 pub mod list;
 pub mod memory;
 pub mod refusal;
+pub mod slices;
 pub mod stamp;
 #[cfg(test)]
 mod tests;

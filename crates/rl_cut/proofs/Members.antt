@@ -4,11 +4,12 @@ use Rattle.std.specs.List.{filter}
 use Rattle.std.proofs.lemmas.List.{append-nil, append_assoc}
 use Rattle.std.proofs.lemmas.Bool.{cases_Bool}
 use Rattle.rl_base.specs.declared.stamp.Stamp.{Stamp}
+use Rattle.rl_base.specs.Lists.{IsPrefix}
 use Rattle.rl_txn.specs.declared.item.Item.{Item}
 use Rattle.rl_txn.specs.declared.batch.Batch.{Batch}
 use Rattle.rl_txn.specs.declared.batch.Batch.TheVariants.{Items, Idle, Opened}
 use Rattle.rl_cut.specs.Order.{IsBelow, place, in_order}
-use Rattle.rl_cut.specs.Families.{stamps_of, items_of, stamps, items, IsPrefix}
+use Rattle.rl_cut.specs.Families.{stamps_of, items_of, stamps, items}
 use Rattle.rl_cut.proofs.Folds.{stamps-append}
 use Rattle.rl_cut.proofs.Sorting.{In, lower, in_filter, is_below_tells, is_below_from}
 use Rattle.rl_cut.proofs.Stamps.{Rises, above_in, rises_front, rises_back, behind, in_front, in_back, in_split}

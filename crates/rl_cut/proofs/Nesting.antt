@@ -6,11 +6,12 @@ use Rattle.std.proofs.lemmas.List.Elements.{filter-append, filter_agree}
 use Rattle.std.proofs.lemmas.Bool.Decides.{nat_tests, eqb_tells}
 use Rattle.std.proofs.lemmas.Bool.{cases_Bool, and_from, and_parts}
 use Rattle.rl_base.specs.declared.stamp.Stamp.{Stamp}
+use Rattle.rl_base.specs.Lists.{IsPrefix}
 use Rattle.rl_txn.specs.declared.item.Item.{Item}
 use Rattle.rl_txn.specs.declared.batch.Batch.{Batch}
 use Rattle.rl_txn.specs.declared.batch.Batch.TheVariants.{Items, Idle, Opened}
 use Rattle.rl_cut.specs.Order.{is_below, in_order}
-use Rattle.rl_cut.specs.Families.{last_among, stamps_of, items_of, stamps, items, IsRising, top, last, least, least_top, reached, watermark, counts, history, IsPrefix, IsInside}
+use Rattle.rl_cut.specs.Families.{last_among, stamps_of, items_of, stamps, items, IsRising, top, last, least, least_top, reached, watermark, counts, history, IsInside}
 use Rattle.rl_cut.specs.Laws.{is_up_to, HistoriesNest, WatermarkCuts}
 use Rattle.rl_cut.proofs.Folds.{stamps-append}
 use Rattle.rl_cut.proofs.Sorting.{In, lower, Least, Sorted, in_order_sorted, in_order-filter}

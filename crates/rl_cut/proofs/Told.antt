@@ -6,10 +6,11 @@ use Rattle.std.proofs.lemmas.List.Elements.{AllZip-push, All-push, All-nil}
 use Rattle.std.proofs.lemmas.Bool.Decides.{nat_tests, eqb_tells}
 use Rattle.std.proofs.lemmas.Bool.{and_parts}
 use Rattle.rl_base.specs.declared.stamp.Stamp.{Stamp}
+use Rattle.rl_base.specs.Lists.{IsPrefix}
 use Rattle.rl_txn.specs.declared.item.Item.{Item}
 use Rattle.rl_txn.specs.declared.batch.Batch.{Batch}
 use Rattle.rl_cut.specs.Order.{IsBelow}
-use Rattle.rl_cut.specs.Families.{stamps, items, IsRising, AllRise, IsPrefix, IsInside, top, last, last_among, least_top, reached, counts, history}
+use Rattle.rl_cut.specs.Families.{stamps, items, IsRising, AllRise, IsInside, top, last, last_among, least_top, reached, counts, history}
 use Rattle.rl_cut.specs.Leaders.{streams, Leaders, mark, first_log, leader_log, opening_list, own_stamps, AreLeaders, IsTold, GoesOn}
 use Rattle.rl_cut.proofs.Folds.{stamps-append, last_among-append}
 use Rattle.rl_cut.proofs.Sorting.{In, in_filter}

@@ -1,7 +1,8 @@
 -- Families of logs, one log for each worker's stream, and what they decide together, after Rolis: nothing above the watermark counts.
-use Rattle.std.specs.Prelude.{◌≡◌, ℕ, ◌-◌, min, max, List, [], ◌∷◌, ◌++◌, Bool, ◌&&◌, ◌==◌, nat_lt, nat_le, if◌then◌else◌, map, filter, slice_index_or, Option, Some, None, AllPairs, All}
+use Rattle.std.specs.Prelude.{ℕ, ◌-◌, min, max, List, [], ◌∷◌, Bool, ◌&&◌, ◌==◌, nat_lt, nat_le, if◌then◌else◌, map, filter, slice_index_or, Option, Some, None, AllPairs, All}
 use Rattle.std.specs.List.{flat_map, AllZip}
 use Rattle.std.specs.Option.{option_map_or, option_and_then}
+use Rattle.rl_base.specs.Lists.{IsPrefix}
 use Rattle.rl_base.specs.declared.stamp.Stamp.{Stamp}
 use Rattle.rl_base.specs.declared.bound.Bound.{Bound}
 use Rattle.rl_base.specs.declared.bound.Bound.TheVariants.{Final, Rising, Beyond}
@@ -103,10 +104,6 @@ order_refusal last first = option_and_then (λ l. option_and_then (λ f. if is_b
 
 abbrev pub refusal : List (List Batch) → (s : ℕ) → Batch → Option ExtendError
 refusal family s batch = order_refusal (last_stamp (stamps (log_of family s))) (first_stamp (stamps_of batch))
-
--- one list begins the other
-abbrev pub IsPrefix : {X : Type 0} → List X → List X → Type 0
-IsPrefix {X} xs ys = (rest : List X) × (xs ++ rest ≡ ys)
 
 -- a family inside another: each of its logs is a prefix of the other's
 abbrev pub IsInside : List (List Batch) → List (List Batch) → Type 0

@@ -1,8 +1,9 @@
 -- What is true of the histories of all families.
 use Rattle.std.specs.Prelude.{◌≡◌, ℕ, List, Bool, ◌&&◌, ◌||◌, ◌==◌, nat_lt, nat_le, filter}
 use Rattle.rl_base.specs.declared.stamp.Stamp.{Stamp}
+use Rattle.rl_base.specs.Lists.{IsPrefix}
 use Rattle.rl_txn.specs.declared.batch.Batch.{Batch}
-use Rattle.rl_cut.specs.Families.{IsInside, AllRise, IsPrefix, history, watermark}
+use Rattle.rl_cut.specs.Families.{IsInside, AllRise, history, watermark}
 
 -- a stamp is at most a watermark
 abbrev pub is_up_to : ℕ × ℕ → Stamp → Bool

@@ -1,10 +1,11 @@
 -- What the leaders of all epochs have proposed, at one moment. No node and no worker is in it.
 use Rattle.std.specs.Prelude.{◌≡◌, ◌⊎◌, ℕ, zero, suc, ◌<◌, ◌≤◌, List, [], ◌∷◌, ◌++◌, nat_le, filter, Contains, map}
 use Rattle.rl_base.specs.declared.stamp.Stamp.{Stamp}
+use Rattle.rl_base.specs.Lists.{IsPrefix}
 use Rattle.rl_txn.specs.declared.item.Item.{Item}
 use Rattle.rl_txn.specs.declared.batch.Batch.{Batch}
 use Rattle.rl_txn.specs.declared.batch.Batch.TheVariants.{Opened}
-use Rattle.rl_cut.specs.Families.{stamps, items, IsRising, IsPrefix, last, history, reached}
+use Rattle.rl_cut.specs.Families.{stamps, items, IsRising, last, history, reached}
 
 -- the logs of streams 1 to n
 abbrev pub streams : ℕ → (ℕ → List Batch) → List (List Batch)

@@ -1,8 +1,7 @@
 //! A family of logs, one for each stream.
 
-ghost use Rattle.std.specs.Prelude.{◌≡◌, ◌<◌, ◌≤◌, ◌-◌, ◌++◌, ◌∷◌, [], Err, IfSome, IfNone, IfOk, OnOk, OnErr, IsOkUnless, length, filter, map, min, replicate, slice_set, None};
+ghost use Rattle.std.specs.Prelude.{◌≡◌, ◌<◌, ◌≤◌, ◌-◌, ◌++◌, ◌∷◌, [], Err, IfSome, IfNone, IfOk, OnOk, OnErr, IsOkUnless, length, filter, map, replicate, slice_set, None};
 ghost use Rattle.std.specs.List.{flat_map};
-ghost use Rattle.std.specs.Option.{option_map_or};
 ghost use Rattle.rl_cut.specs.Families.{stamps_of, items_of, stamps, items, IsRising, AllRise, first_stamp, last_stamp, top, last, last_among, least, least_top, reached, bound_of, watermark, counts, history, log_of, order_refusal, refusal};
 
 use crate::order::is_below;
@@ -187,7 +186,7 @@ impl Family {
         let mut least = None;
         for log in &self.logs {
             let top = top_of(log);
-            least = Some(least_epoch(least, top));
+            least = Some(least.map_or(top, |found: u32| found.min(top)));
         }
         least.unwrap_or(0)
     }
@@ -199,7 +198,7 @@ impl Family {
         let mut least = None;
         for log in &self.logs {
             let last = last_seq(log, epoch);
-            least = Some(least_seq(least, last));
+            least = Some(least.map_or(last, |found: u64| found.min(last)));
         }
         least.unwrap_or(0)
     }
@@ -341,24 +340,6 @@ fn seq_at(stamp: Stamp, epoch: u32) -> u64
     ensures { result ≡ last_among (stamp ∷ []) epoch }
 {
     if stamp.epoch == epoch { stamp.seq } else { 0 }
-}
-
-fn least_epoch(least: Option<u32>, epoch: u32) -> u32
-    ensures { result ≡ option_map_or (λ l. min l epoch) least epoch }
-{
-    match least {
-        Some(least) => least.min(epoch),
-        None => epoch,
-    }
-}
-
-fn least_seq(least: Option<u64>, seq: u64) -> u64
-    ensures { result ≡ option_map_or (λ l. min l seq) least seq }
-{
-    match least {
-        Some(least) => least.min(seq),
-        None => seq,
-    }
 }
 
 #[cfg(test)]

@@ -2,7 +2,8 @@
 use Rattle.std.proofs.Common.{◌≡◌, ◌⊎◌, ℕ, zero, suc, ◌+◌, ◌-◌, ◌<◌, ◌≤◌, List, [], ◌∷◌, ◌++◌, length, get_or, true, ◌==◌, ◌&&◌, nat_le, Some, refl, sym, arith, inl, inr, eqb-true}
 use Rattle.std.proofs.lemmas.Bool.{cases_eq, and_parts, or_cases, leb-true, true≢false}
 use Rattle.std.specs.List.{best_of}
-use Rattle.rl_paxos.specs.Logs.{Log, IsPrefix}
+use Rattle.rl_base.specs.Lists.{IsPrefix}
+use Rattle.rl_paxos.specs.Logs.{Log}
 use Rattle.rl_paxos.specs.Quorums.{is_quorum}
 use Rattle.rl_paxos.specs.Recovery.{Promise, has_promised, recovered, is_better}
 use Rattle.rl_paxos.proofs.Best.{NoBetter, best_in, best_top}

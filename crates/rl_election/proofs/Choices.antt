@@ -1,7 +1,8 @@
 -- Some prefix of a log is what is chosen.
 use Rattle.std.proofs.Common.{◌≡◌, ℕ, zero, suc, ◌<◌, ◌≤◌, [], ◌∷◌, length, take, Bool, true, false, refl, sym, ◌∙◌, ap, arith, inl, inr}
 use Rattle.std.proofs.lemmas.Bool.{cases_lt, cases_eq, true≢false}
-use Rattle.rl_paxos.specs.Logs.{Log, IsPrefix}
+use Rattle.rl_base.specs.Lists.{IsPrefix}
+use Rattle.rl_paxos.specs.Logs.{Log}
 use Rattle.rl_election.specs.World.{Setting, World}
 use Rattle.rl_election.specs.Chosen.{IsLog, IsChosen, is_chosen_len}
 use Rattle.rl_election.proofs.Prefixes.{prefix_both, prefix_length}

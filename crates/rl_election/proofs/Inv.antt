@@ -1,8 +1,9 @@
 -- What holds between any two events. Streams stand here by their index, from 0.
 use Rattle.std.proofs.Common.{◌≡◌, ℕ, ◌+◌, ◌-◌, ◌<◌, ◌≤◌, List, [], ◌∷◌, ◌++◌, length, get_or, true, Some, None, refl, sym, ◌∙◌, arith}
 use Rattle.rl_base.specs.Epochs.{owner_of}
+use Rattle.rl_base.specs.Lists.{IsPrefix}
 use Rattle.rl_paxos.specs.Acceptors.{Kept, Acceptor, nothing_kept}
-use Rattle.rl_paxos.specs.Logs.{Batch, Log, IsPrefix}
+use Rattle.rl_paxos.specs.Logs.{Batch, Log}
 use Rattle.rl_paxos.specs.Quorums.{is_quorum}
 use Rattle.rl_paxos.specs.Recovery.{Promise, Candidate, has_promised, recovered}
 use Rattle.rl_paxos.proofs.Counting.{EachOnce}

@@ -1,6 +1,7 @@
 -- Prefixes of logs.
 use Rattle.std.proofs.Common.{◌≡◌, ℕ, zero, suc, ◌<◌, ◌≤◌, [], ◌∷◌, ◌++◌, length, get_or, refl, sym, ap, ◌∙◌, arith, append_assoc, append-nil, length-append}
-use Rattle.rl_paxos.specs.Logs.{Batch, Log, IsPrefix}
+use Rattle.rl_base.specs.Lists.{IsPrefix}
+use Rattle.rl_paxos.specs.Logs.{Batch, Log}
 
 pub prefix_self : (xs : Log) → IsPrefix xs xs
 prefix_self xs = ([], append-nil xs)

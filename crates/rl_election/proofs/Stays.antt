@@ -2,10 +2,11 @@
 use Rattle.std.proofs.Common.{◌≡◌, ℕ, zero, suc, ◌+◌, ◌≤◌, List, [], ◌∷◌, ◌++◌, length, Bool, true, not, ◌&&◌, ◌==◌, nat_le, Option, Some, None, refl, sym, ap, ◌∙◌, arith, inl, inr, append_assoc, append-nil}
 use Rattle.std.proofs.lemmas.Bool.{and_parts, or_cases, cond_both, true≢false, or_left, or_right, le-leb, leb-true}
 use Rattle.std.specs.Prelude.{slice_get}
+use Rattle.rl_base.specs.Lists.{IsPrefix}
 use Rattle.rl_paxos.specs.declared.refused.Refused.{Refused}
 use Rattle.rl_paxos.specs.Acceptors.{refuses, refuses_accept}
 use Rattle.rl_paxos.specs.Leaders.{Leading, acks, proposed}
-use Rattle.rl_paxos.specs.Logs.{Batch, IsPrefix}
+use Rattle.rl_paxos.specs.Logs.{Batch}
 use Rattle.rl_paxos.specs.Quorums.{is_node, count, is_quorum}
 use Rattle.rl_paxos.specs.Recovery.{Promise, Candidate, counts, has_promised}
 use Rattle.rl_election.specs.World.{Setting, Says, Prepare, Promised, Sync, Accept, Ack, Message, Role, Follows, Stands, Leads, Node, Term, World, Event, Elect, Deliver, Propose, Crash, Return, Lose, is_up, is_stream, does, unless, may_stand, leads, stands_or_leads, hears_promise, stream_of, counts_ack, hears_ack, receives, delivers, proposes_in, proposes, happens, after}

@@ -4,11 +4,12 @@ use Rattle.std.proofs.lemmas.Bool.{cases_eq, and_parts, ltb-true, ltb-false, leb
 use Rattle.std.proofs.lemmas.List.{length-map, get_or-map, length-replicate}
 use Rattle.std.specs.Prelude.{slice_get}
 use Rattle.rl_base.specs.Epochs.{owner_of}
+use Rattle.rl_base.specs.Lists.{IsPrefix}
 use Rattle.rl_paxos.specs.declared.refused.Refused.{Refused}
 use Rattle.rl_paxos.specs.declared.refused.Refused.TheVariants as refused
 use Rattle.rl_paxos.specs.Acceptors.{Kept, Acceptor, nothing_kept, ballot_of, log_of, refuses, refuses_accept, prepared, keeps, synced, accepted}
 use Rattle.rl_paxos.specs.Leaders.{Leading, new_leading, acks, proposed}
-use Rattle.rl_paxos.specs.Logs.{Batch, Log, IsPrefix}
+use Rattle.rl_paxos.specs.Logs.{Batch, Log}
 use Rattle.rl_paxos.specs.Quorums.{is_node, count, is_quorum}
 use Rattle.rl_paxos.specs.Recovery.{Promise, Candidate, new_candidate, counts, has_promised, recovered, recovered_logs}
 use Rattle.rl_paxos.proofs.Counting.{none, counted_once}

@@ -1,8 +1,9 @@
 -- What was chosen, and with what a leader began.
 use Rattle.std.specs.Prelude.{◌≡◌, ℕ, ◌-◌, List, [], length, Bool, false, ◌&&◌, ◌||◌, ◌==◌, nat_le, IsTrue, Some, slice_index_or}
 use Rattle.std.specs.List.{list_any}
+use Rattle.rl_base.specs.Lists.{IsPrefix}
 use Rattle.rl_paxos.specs.Leaders.{Leading}
-use Rattle.rl_paxos.specs.Logs.{Log, IsPrefix}
+use Rattle.rl_paxos.specs.Logs.{Log}
 use Rattle.rl_paxos.specs.Quorums.{is_quorum}
 use Rattle.rl_election.specs.World.{Setting, World, Message, Says, Prepare, Promised, Sync, Accept, Ack, Term, stream_of}
 

@@ -1,9 +1,10 @@
 //! Laws of streams alone, whatever is sent, lost, sent again or delayed, and whichever nodes crash, return or are lost.
 
 ghost use Rattle.std.specs.Prelude.{◌≡◌, ℕ, List, [], ◌∷◌, ◌++◌, ◌<◌, ◌≤◌, take, IsTrue};
+ghost use Rattle.rl_base.specs.Lists.{IsPrefix};
 ghost use Rattle.rl_paxos.specs.Acceptors.{ballot_of, log_of};
 ghost use Rattle.rl_paxos.specs.Leaders.{Leading, IsLed};
-ghost use Rattle.rl_paxos.specs.Logs.{Batch, Log, IsPrefix};
+ghost use Rattle.rl_paxos.specs.Logs.{Batch, Log};
 ghost use Rattle.rl_election.specs.World.{Setting, Meets, Event, World, opening, after, is_stream};
 ghost use Rattle.rl_election.specs.Chosen.{IsFirst, IsLog, IsChosen, IsAdopted, IsLeading};
 ghost use Rattle.rl_election.specs.Example.{three_nodes, one_election};

@@ -5,9 +5,10 @@ ghost use Rattle.std.specs.Io.KnownBytes.{prepend_known};
 ghost use Rattle.rl_io.specs.Faults.{one_more, Rose};
 ghost use Rattle.rl_io.specs.Memory.{SourceState};
 
-use crate::slices::{copy_front, rest_from};
+use crate::slices::copy_front;
 use crate::source::{Failed, Source};
 use rl_base::list::{Bytes, Fails};
+use rl_base::slices::rest_from;
 use std::marker::Model;
 
 /// Gives its bytes, at most `chunk` at a call. Calls are numbered from 1; those whose numbers are

@@ -4,8 +4,8 @@ ghost use Rattle.std.specs.Prelude.{◌≡◌, ◌≢◌, ◌<◌, ◌≤◌, �
 ghost use Rattle.std.specs.Io.KnownBytes.{append_known};
 ghost use Rattle.rl_io.specs.Faults.{Rose};
 
-use crate::slices::rest_from;
 use crate::source::Failed;
+use rl_base::slices::rest_from;
 
 /// A place that takes bytes.
 pub trait Sink {

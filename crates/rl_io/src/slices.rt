@@ -2,14 +2,6 @@
 
 ghost use Rattle.std.specs.Prelude.{◌≡◌, ◌≤◌, length, take, drop};
 
-/// The bytes from a place on.
-pub fn rest_from(bytes: &[u8], at: usize) -> &[u8]
-    requires { at ≤ length bytes.now }
-    ensures { result.now ≡ drop at bytes.now }
-{
-    &bytes[at..]
-}
-
 /// Puts the first bytes at the front of a buffer, and leaves the rest of it.
 pub fn copy_front(buf: &mut [u8], bytes: &[u8], count: usize)
     requires fits { count ≤ length buf.old }

@@ -1,6 +1,7 @@
 //! A sink over std's writers. It tells no content.
 
-ghost use Rattle.std.specs.Prelude.{◌≡◌};
+ghost use Rattle.std.specs.Prelude.{◌≡◌, ◌≢◌, ◌<◌, ◌≤◌, length, Ok, IfOk, OnOk, OnErr};
+ghost use Rattle.rl_io.specs.Faults.{one_more};
 
 use crate::sink::Sink;
 use crate::source::Failed;
@@ -40,7 +41,13 @@ impl<W: Write + Drop> Sink for StdSink<W> {
 
     /// Each error of the writer is a fault, and so is a write that takes no byte of a piece that
     /// has any.
-    fn write(&mut self, piece: &[u8]) -> Result<usize, Failed> {
+    fn write(&mut self, piece: &[u8]) -> Result<usize, Failed>
+        ensures within { IfOk result (λ n. n ≤ length piece.now) }
+        ensures some { 0 < length piece.now → result ≢ Ok 0 }
+        ensures ok { OnOk result (self.new ≡ self.old) }
+        ensures failed { OnErr result (self.new ≡ one_more self.old) }
+        ensures counted { self.old ≤ self.new }
+    {
         match self.writer.write(piece) {
             Ok(count) if count > 0 || piece.is_empty() => Ok(count),
             _ => {

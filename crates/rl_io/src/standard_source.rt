@@ -1,6 +1,7 @@
 //! A source over std's readers. It tells no content.
 
-ghost use Rattle.std.specs.Prelude.{◌≡◌};
+ghost use Rattle.std.specs.Prelude.{◌≡◌, ◌≤◌, length, IfOk, OnOk, OnErr};
+ghost use Rattle.rl_io.specs.Faults.{one_more};
 
 use crate::source::{Failed, Source};
 use std::io::Read;
@@ -38,7 +39,12 @@ impl<R: Read + Drop> Source for StdSource<R> {
     ghost left = { λ _. None };
 
     /// Each error of the reader is a fault.
-    fn read(&mut self, buf: &mut [u8]) -> Result<usize, Failed> {
+    fn read(&mut self, buf: &mut [u8]) -> Result<usize, Failed>
+        ensures within { IfOk result (λ n. n ≤ length buf.new) }
+        ensures ok { OnOk result (self.new ≡ self.old) }
+        ensures failed { OnErr result (self.new ≡ one_more self.old) }
+        ensures counted { self.old ≤ self.new }
+    {
         match self.reader.read(buf) {
             Ok(count) => Ok(count),
             Err(_) => {

@@ -1,5 +1,5 @@
 -- Logs of batches. A batch is bytes, whose meaning plays no part here.
-use Rattle.std.specs.Prelude.{◌≡◌, ℕ, List, ◌++◌}
+use Rattle.std.specs.Prelude.{ℕ, List}
 
 abbrev pub Batch : Type 0
 Batch = List ℕ
@@ -7,7 +7,3 @@ Batch = List ℕ
 -- one batch for each slot; slots are numbered from 0
 abbrev pub Log : Type 0
 Log = List Batch
-
--- one log begins the other
-abbrev pub IsPrefix : Log → Log → Type 0
-IsPrefix log longer = (rest : Log) × (log ++ rest ≡ longer)

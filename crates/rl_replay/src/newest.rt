@@ -1,14 +1,14 @@
 //! Writes where the newer stamp wins.
 
-ghost use Rattle.std.specs.Prelude.{◌≡◌, ℕ, [], ◌∷◌, take, not, OnOk, OnErr};
+ghost use Rattle.std.specs.Prelude.{◌≡◌, ℕ, [], ◌∷◌, take, OnOk, OnErr};
 ghost use Rattle.std.specs.FinMap as finite;
-ghost use Rattle.rl_txn.specs.Serial.{with_write, after_writes};
+ghost use Rattle.rl_txn.specs.Serial.{after_writes};
 ghost use Rattle.rl_replay.specs.Newest.{is_old, fresh, stamped};
 
 use rl_base::memory::Memory;
 use rl_base::stamp::Stamp;
 use rl_cut::order::is_below;
-use rl_txn::item::Item;
+use rl_txn::item::{Item, apply_write};
 use rl_txn::write::Write;
 use rl_value::map::{Map, Places};
 
@@ -38,7 +38,7 @@ fn apply_one(map: &mut Map, newest: &mut Newest, stamp: Stamp, write: &Write) ->
         return Ok(());
     }
     newest.put(write.table, write.key, stamp)?;
-    make(map, write)?;
+    apply_write(map, write)?;
     Ok(())
 }
 
@@ -50,16 +50,4 @@ fn is_old(newest: &Newest, stamp: Stamp, write: &Write) -> bool
         Some(newer) => is_below(stamp, *newer),
         None => false,
     }
-}
-
-/// Makes one write. After `Memory` the map is unchanged.
-fn make(map: &mut Map, write: &Write) -> Result<(), Memory>
-    ensures made { OnOk result (map.new ≡ with_write map.old write.now) }
-    ensures unchanged { OnErr result (map.new ≡ map.old) }
-{
-    match &write.row {
-        Some(row) => map.put(write.table, write.key, row.copy())?,
-        None => map.del(write.table, write.key),
-    }
-    Ok(())
 }

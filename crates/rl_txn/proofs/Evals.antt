@@ -480,6 +480,10 @@ get_rest [] (suc i) x ys e = absurd (cc)
 get_rest (y ∷ xs) zero x ys e = (omega arith, cc)
 get_rest (y ∷ xs) (suc i) x ys e = let n = get_rest xs i x ys e in (omega (arith, n.0), n.1)
 
+first_new : (a b : Bool) → (a && b) ≡ true → a ≡ true
+first_new true b h = refl
+first_new false b h = absurd (false≢true h)
+
 -- what the evaluation stands at, once it has answered
 pub stands : (tables : List Table) (txn : List Op) (e : Eval) (w : Wants) → TxnFits tables txn → IsEval tables txn e → IsAsked tables txn e (Some w) → StandsAt (record e { wants = Some w }) w
 stands tables txn e (Ended end) fits ev so = record { asked = tt; empty = ev.room.empty; room = omega (arith, ev.room.writes, ev.room.done, ev.room.finish) }
@@ -493,7 +497,7 @@ stands tables txn e (Read t k) fits ev so = go (drop e.done txn) refl so.1
         let less : e.scanned < reads_at_most op = read_within tables op (progress_of e.work) e.scanned (t, k) h in
         let total = sum_by-take-drop reads_at_most txn e.done in
         let here : sum_by reads_at_most (drop e.done txn) ≡ reads_at_most op + sum_by reads_at_most ops = ap (sum_by reads_at_most) at ∙ sum_by-cons reads_at_most op ops in
-        (record { asked = tt; room = omega (arith, ev.room.reads); few = omega (arith, few_reads tables op fit) }, refl)
+        (record { asked = tt; fresh = first_new (is_new e.work.read.0 (t, k)) (is_new e.work.written.0 (t, k)) so.0; room = omega (arith, ev.room.reads); few = omega (arith, few_reads tables op fit) }, refl)
 
 -- ---- a row is given ----
 module _ (read : Overlay) (q : ℕ × ℕ) (row : Option (List ℕ)) where
@@ -544,10 +548,6 @@ take_get : {X : Type 0} (xs : List X) (i : ℕ) (x : X) → slice_get xs i ≡ S
 take_get [] i x e = absurd (cc)
 take_get (y ∷ xs) zero x e = let same : y ≡ x = cc in ap (λ z. z ∷ []) same
 take_get (y ∷ xs) (suc i) x e = let n : suc i + 1 ≡ suc (i + 1) = omega arith in rw n (ap (λ z. y ∷ z) (take_get xs i x e))
-
-first_new : (a b : Bool) → (a && b) ≡ true → a ≡ true
-first_new true b h = refl
-first_new false b h = absurd (false≢true h)
 
 no_row : (o : Option (Option (List ℕ))) → not (is_some o) ≡ true → o ≡ None
 no_row None h = refl

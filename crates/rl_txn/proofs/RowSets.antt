@@ -1,5 +1,5 @@
 -- Searches in rows that are in order, and edits of them.
-use Rattle.std.proofs.Common.{IsOk, OnOk, ◌≡◌, ℕ, ◌+◌, ◌<◌, ◌≤◌, List, [], ◌∷◌, length, map, set, get_or, Bool, true, false, T, ◌&&◌, Option, Some, None, Result, Ok, Err, IfOk, IfErr, refl, ap, sym, ◌∙◌, subst, zero, suc, arith}
+use Rattle.std.proofs.Common.{IsOk, OnOk, IsNone, ◌≡◌, ℕ, ◌+◌, ◌<◌, ◌≤◌, List, [], ◌∷◌, length, map, set, get_or, Bool, true, false, T, ◌&&◌, Option, Some, None, Result, Ok, Err, IfOk, IfErr, refl, ap, sym, ◌∙◌, subst, zero, suc, arith}
 use Rattle.std.specs.List.{insert, refill}
 use Rattle.std.proofs.Math.ListN.{length-set}
 use Rattle.std.proofs.lemmas.Grind.{common_steps}
@@ -12,6 +12,7 @@ use Rattle.std.proofs.lemmas.Cmp.{on_total, then_total}
 use Rattle.std.proofs.lemmas.Map.Lookups.{exact_pairs, exact_unsigned}
 use Rattle.std.proofs.lemmas.List.Sorted.{searchable_from_sorted}
 use mathlib.Core.Bool.{false≢true}
+use Rattle.std.proofs.lemmas.List.{get_or_default}
 use Rattle.std.specs.FinMap as finite
 use Rattle.std.specs.FinMap.Entries.{put, find, is_sorted, below_all, is_sorted-put}
 use Rattle.rl_value.specs.Rows.{place_cmp}
@@ -161,6 +162,17 @@ pub got_gap : (rows seen : List RowAt) (q : ℕ × ℕ) (i : ℕ) → IsInOrder 
 got_gap rows seen q i h s b =
     let b2 : IsPartitionPoint (λ x. place_cmp (place_at x) q ≡ Less) (λ x. place_cmp (place_at x) q ≡ Greater) rows i = subst (λ xs. IsPartitionPoint (λ x. place_cmp (place_at x) q ≡ Less) (λ x. place_cmp (place_at x) q ≡ Greater) xs i) s b in
     sym (get_rows rows q h ∙ find_gap q rows i b2.0 b2.1)
+
+not_none : {X : Type 0} (o : Option X) (x : X) → Some x ≡ o → IsNone o → ⊥
+not_none None x e n = absurd (cc)
+not_none (Some y) x e n = absurd (false≢true (sym n))
+
+-- there is a row where a search ended at one
+pub not_new : (rows seen : List RowAt) (q : ℕ × ℕ) (i : ℕ) → IsInOrder rows → seen ≡ rows → i < length seen → ((d : RowAt) → place_at (get_or seen i d) ≡ q) → IsNone (finite.get (rows_at rows) q) → ⊥
+not_new rows seen q i h s l e none =
+    let d : RowAt = record { table = q.0; key = q.1; row = None } in
+    let l2 : i < length rows = rw s at l in
+    not_none (finite.get (rows_at rows) q) (get_or rows i d).row (got_here rows seen q i (get_or rows i d) h s l e (get_or_default rows i d (get_or rows i d) l2)) none
 
 abbrev pub IsPut : List RowAt → List RowAt → ℕ × ℕ → Option (List ℕ) → Type 0
 IsPut rows new q row = record { map_is : rows_at new ≡ finite.insert (rows_at rows) q row; order : IsInOrder new }

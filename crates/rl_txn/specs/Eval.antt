@@ -76,6 +76,15 @@ pub record UsesRoom (old new : Workspace) : Type 0 where
 abbrev pub known : Eval → Overlay
 known e = e.work.read.0
 
+-- how many more rows an evaluation has room for
+abbrev pub reads_room : Eval → ℕ
+reads_room e = e.work.read.1
+
+-- a record that is wanted is that of a key of a table
+abbrev pub IsThere : List Table → Wants → Type 0
+IsThere tables (Read t k) = (t < length tables) × (k < size_of tables t)
+IsThere tables (Ended end) = Unit {0}
+
 -- what a transaction wants next, given the rows that it has read: of the records that it reads on them, the first that it has not read yet; else its end
 abbrev pub wants : List Table → List Op → Overlay → Wants
 wants tables txn read = option_map_or (λ q. Read q.0 q.1) (find (is_new read) (read_by tables (rows_of read) 0 txn beginning)) (Ended (run tables txn (rows_of read)).0.end)
@@ -149,6 +158,7 @@ awaited e = place_of_wants e.wants
 -- it waits for a row, for which there is room
 pub record Awaits (e : Eval) : Type 0 where
   pub asked : IsRead e.wants
+  pub fresh : is_new (known e) (awaited e) ≡ true
   pub room : 0 < e.work.read.1
   pub few : e.scanned < 256
 

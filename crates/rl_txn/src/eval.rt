@@ -8,7 +8,7 @@ ghost use Rattle.rl_value.specs.Tables.{Table};
 ghost use Rattle.rl_txn.specs.declared.op.Op.{Op};
 ghost use Rattle.rl_txn.specs.Fits.{TxnFits, OpFits};
 ghost use Rattle.rl_txn.specs.Run.{run};
-ghost use Rattle.rl_txn.specs.Eval.{reads_at_most, HasRows, IsEval, known, wants, IsAsked, AllKnown, Awaits, awaited, HasEnded, StandsAt};
+ghost use Rattle.rl_txn.specs.Eval.{reads_at_most, HasRows, IsEval, known, reads_room, wants, IsThere, IsAsked, AllKnown, Awaits, awaited, HasEnded, StandsAt};
 
 use crate::op::{Op, Txn};
 use crate::workspace::Workspace;
@@ -56,12 +56,21 @@ impl Eval {
         })
     }
 
+    /// How many more rows it can be given with no memory.
+    pub fn room(&self) -> usize
+        ensures { result ≡ reads_room self.now }
+    {
+        self.work.read.room()
+    }
+
     /// Runs up to the next wanted record, or to the end, and takes no memory.
     pub fn advance(&mut self, schema: &Schema, txn: &Txn) -> Wants
         requires fits { TxnFits schema.now txn.now }
         requires of { IsEval schema.now txn.now self.old }
         ensures wants { result ≡ wants schema.now txn.now (known self.old) }
+        ensures there { IsThere schema.now result }
         ensures known { known self.new ≡ known self.old }
+        ensures room { reads_room self.new ≡ reads_room self.old }
         ensures of { IsEval schema.now txn.now self.new }
         ensures stands { StandsAt self.new result }
     {
@@ -75,6 +84,7 @@ impl Eval {
     pub fn give(&mut self, row: Option<Row>)
         requires { Awaits self.old }
         ensures known { known self.new ≡ finite.insert (known self.old) (awaited self.old) row }
+        ensures room { reads_room self.old ≡ reads_room self.new + 1 }
         ensures of { (tables : List Table) (txn : List Op) → IsEval tables txn self.old → IsEval tables txn self.new }
     {
         if let Some(Wants::Read { table, key }) = self.wants {
@@ -123,7 +133,8 @@ impl Eval {
         requires of { IsEval schema.now txn.now self.old }
         requires nothing { self.old.wants ≡ None }
         ensures wants { result ≡ wants schema.now txn.now (known self.old) }
-        ensures known { known self.new ≡ known self.old }
+        ensures there { IsThere schema.now result }
+        ensures read { self.new.work.read ≡ self.old.work.read }
         ensures of { IsEval schema.now txn.now self.new }
         ensures nothing { self.new.wants ≡ None }
         ensures asked { IsAsked schema.now txn.now self.new (Some result) }
@@ -148,10 +159,11 @@ impl Eval {
         requires more { self.old.done < length txn.now }
         ensures of { IsEval schema.now txn.now self.new }
         ensures nothing { self.new.wants ≡ None }
-        ensures known { known self.new ≡ known self.old }
+        ensures read { self.new.work.read ≡ self.old.work.read }
         ensures done { self.new.done ≡ self.old.done }
         ensures none { IfNone result (AllKnown schema.now (drop self.new.done txn.now) self.new) }
         ensures some { IfSome result (λ w. w ≡ wants schema.now txn.now (known self.old)) }
+        ensures there { IfSome result (IsThere schema.now) }
         ensures asked { IfSome result (λ w. IsAsked schema.now txn.now self.new (Some w)) }
     {
         let op = txn.get(self.done);
@@ -176,7 +188,7 @@ impl Eval {
         requires ready { AllKnown schema.now (drop self.old.done txn.now) self.old }
         ensures of { IsEval schema.now txn.now self.new }
         ensures nothing { self.new.wants ≡ None }
-        ensures known { known self.new ≡ known self.old }
+        ensures read { self.new.work.read ≡ self.old.work.read }
         ensures more { OnTrue result (self.old.done < self.new.done) }
         ensures same { OnFalse result (self.new.done ≡ self.old.done) }
         ensures wants { OnFalse result (Wants.Ended (End.Declined (self.old.done + 1)) ≡ wants schema.now txn.now (known self.old)) }

@@ -49,8 +49,8 @@ pub fn apply(m: &mut Map, item: &Item) -> Result<(), Memory>
     Ok(())
 }
 
-/// Makes one write.
-fn apply_write(m: &mut Map, write: &Write) -> Result<(), Memory>
+/// Makes one write. After `Memory` the map is unchanged.
+pub fn apply_write(m: &mut Map, write: &Write) -> Result<(), Memory>
     ensures ok { OnOk result (m.new ≡ with_write m.old write.now) }
     ensures err { OnErr result (m.new ≡ m.old) }
 {

@@ -1,6 +1,6 @@
 //! The rows that an attempt has read or written.
 
-ghost use Rattle.std.specs.Prelude.{◌≡◌, ◌+◌, ◌<◌, ◌≤◌, IfOk, IfErr, T, map, length, is_some, vec_capacity, [], IsTrue};
+ghost use Rattle.std.specs.Prelude.{◌≡◌, ◌+◌, ◌<◌, ◌≤◌, IfOk, IfErr, IsNone, T, map, length, is_some, vec_capacity, [], IsTrue};
 ghost use Rattle.std.specs.List.{HoldsAt};
 ghost use Rattle.std.specs.List.Sorted.{IsSearchInRange, IsPartitionPoint};
 ghost use Rattle.std.specs.Option.{option_copied};
@@ -70,6 +70,13 @@ impl RowSet {
         }
     }
 
+    /// How many rows at further keys it has room for.
+    pub fn room(&self) -> usize
+        ensures { result ≡ self.now.1 }
+    {
+        self.rows.capacity() - self.rows.len()
+    }
+
     /// Whether it has something at a key.
     pub fn contains(&self, table: u32, key: u32) -> bool
         ensures { result ≡ is_some (finite.get self.now.0 (table, key)) }
@@ -82,6 +89,7 @@ impl RowSet {
         requires { 0 < self.old.1 }
         ensures rows { self.new.0 ≡ finite.insert self.old.0 (table, key) row }
         ensures room { self.old.1 ≤ self.new.1 + 1 }
+        ensures used { IsNone (finite.get self.old.0 (table, key)) → self.old.1 ≡ self.new.1 + 1 }
     {
         match search(&self.rows, table, key) {
             Ok(at) => self.rows[at] = RowAt { table, key, row },

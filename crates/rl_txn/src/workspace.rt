@@ -88,6 +88,7 @@ impl Workspace {
         ensures places { MatchOption result (places_read schema.now op.now (progress_of self.now) ≡ []) (λ keys. places_read schema.now op.now (progress_of self.now) ≡ places keys.table keys.first keys.count) }
         ensures count { IfSome result (λ keys. keys.count ≡ reads_at_most op.now) }
         ensures small { IfSome result (λ keys. keys.first + keys.count ≤ 65536) }
+        ensures there { IfSome result (λ keys. (keys.table < length schema.now) × (keys.first + keys.count ≤ size_of schema.now keys.table)) }
     {
         match op {
             Op::Get { table, key, .. } | Op::Has { table, key, .. } => {

@@ -16,13 +16,13 @@ pub fn is_name(word: &str) -> bool
 fn is_letter(b: u8) -> bool
     ensures { result ≡ is_letter b }
 {
-    b >= b'a' && b <= b'z'
+    b.is_ascii_lowercase()
 }
 
 fn is_name_byte(b: u8) -> bool
     ensures { result ≡ is_name_byte b }
 {
-    is_letter(b) || b >= b'0' && b <= b'9' || b == b'_'
+    is_letter(b) || b.is_ascii_digit() || b == b'_'
 }
 
 fn are_name_bytes(word: &[u8]) -> bool

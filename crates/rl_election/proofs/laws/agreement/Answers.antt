@@ -1,6 +1,7 @@
 use Rattle.std.proofs.Common.{◌≡◌, ◌-◌, [], ◌∷◌, ◌++◌, ◌==◌, List, length, refl, arith, inl, inr, eqb-true}
 use Rattle.std.proofs.lemmas.Bool.{or_cases}
-use Rattle.rl_paxos.specs.Logs.{Log, IsPrefix}
+use Rattle.rl_base.specs.Lists.{IsPrefix}
+use Rattle.rl_paxos.specs.Logs.{Log}
 use Rattle.rl_paxos.specs.Quorums.{is_quorum}
 use Rattle.rl_election.specs.World.{Setting, Event, World, opening, after}
 use Rattle.rl_election.specs.Chosen.{has_acked}

@@ -1,5 +1,6 @@
 use Rattle.std.proofs.Common.{◌≡◌, ◌≤◌, ℕ, zero, suc, [], ◌∷◌, length, take, true, arith}
-use Rattle.rl_paxos.specs.Logs.{Log, IsPrefix}
+use Rattle.rl_base.specs.Lists.{IsPrefix}
+use Rattle.rl_paxos.specs.Logs.{Log}
 use Rattle.rl_election.specs.World.{World, opening, after, stream_of}
 use Rattle.rl_election.specs.Chosen.{is_chosen_len}
 use Rattle.rl_election.proofs.Choices.{take_prefix}

@@ -1,8 +1,8 @@
-use Rattle.std.proofs.Common.{◌≡◌, ◌+◌, ◌≤◌, length, ap, ◌∙◌, refl, arith}
+use Rattle.std.proofs.Common.{◌≡◌, ◌+◌, ◌≤◌, length, ap, ◌∙◌, refl, sym, arith, subst, IsNone}
 use Rattle.std.specs.FinMap as finite
 use Rattle.std.specs.List.{insert}
 use Rattle.rl_txn.specs.declared.row_set.RowAt.{RowAt}
-use Rattle.rl_txn.proofs.RowSets.{was_set, was_inserted, ok_gives}
+use Rattle.rl_txn.proofs.RowSets.{was_set, was_inserted, not_new, ok_gives}
 use Rattle.rl_txn.proofs.row_set.RowSet.put.Goals as goal
 
 pub invariant_of-self : goal.invariant_of-self
@@ -32,3 +32,7 @@ returns-in-Err-clause-rows c =
     (was_inserted c.self.inside.rows.items c.deref.result.now c.insert-room_was_made.new.self.items (c.args.table, c.args.key) c.in-Err.at x refl
     c.self.invariant c.deref.ensures c.in-Err.ensures.within c.in-Err.ensures.between new).map_is
     ∙ ap (λ s. finite.insert s.0 (c.args.table, c.args.key) c.args.row) c.self.view_is
+
+pub returns-in-Ok-clause-used : goal.returns-in-Ok-clause-used
+returns-in-Ok-clause-used c = λ none. absurd (not_new c.self.inside.rows.items c.deref.result.now (c.args.table, c.args.key) c.in-Ok.at
+    c.self.invariant c.deref.ensures c.in-Ok.ensures.within c.in-Ok.ensures.found (subst (λ s. IsNone (finite.get s.0 (c.args.table, c.args.key))) (sym c.self.view_is) none))
