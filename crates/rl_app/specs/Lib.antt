@@ -1,4 +1,5 @@
 pub mod Command
+pub mod Runs
 pub mod Serial
 pub mod Serve
 pub mod Texts

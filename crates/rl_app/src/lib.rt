@@ -3,6 +3,7 @@
 
 pub mod command;
 pub mod report;
+pub mod run;
 pub mod serial;
 pub mod serve;
 #[cfg(test)]

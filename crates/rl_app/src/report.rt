@@ -1,10 +1,10 @@
-//! The report of a serial run.
+//! The report of a run.
 
 ghost use Rattle.std.specs.Prelude.{◌≡◌, ◌<◌, ◌++◌, length, ◌^◌, IfOk, OnOk};
 ghost use Rattle.std.specs.Option.{option_copied};
 ghost use Rattle.std.specs.String.{string_bytes};
 ghost use Rattle.std.specs.List.{flat_map, range_with_len};
-ghost use Rattle.rl_app.specs.Texts.{word, end_text, item_text, row_text, table_text, serial_text};
+ghost use Rattle.rl_app.specs.Texts.{word, end_text, item_text, row_text, table_text, run_text, serial_text};
 
 use rl_txn::item::{Item, Items};
 use rl_txn::write::End;
@@ -94,7 +94,23 @@ fn push_tables(out: &mut String, schema: &Schema, rows: &Map) -> Result<(), Allo
     Ok(())
 }
 
-/// The report of a serial run: its items, and the rows after them.
+/// The items of a run, and the rows after them.
+#[tactic(auto, unfolding(crate::specs::Texts::run_text))]
+pub fn push_run(
+    out: &mut String,
+    items: &Items,
+    schema: &Schema,
+    rows: &Map,
+) -> Result<(), AllocError>
+    ensures { OnOk result (string_bytes out.new ≡ string_bytes out.old ++ run_text items.now schema.now rows.now) }
+{
+    write!(out, "items {}\n", items.len())?;
+    push_items(out, items)?;
+    out.push_str("tables\n")?;
+    push_tables(out, schema, rows)
+}
+
+/// The report of a serial run.
 #[tactic(auto, unfolding(crate::specs::Texts::serial_text))]
 pub fn serial_report(
     alloc: Global,
@@ -104,10 +120,7 @@ pub fn serial_report(
 ) -> Result<String, AllocError>
     ensures { IfOk result (λ text. string_bytes text ≡ serial_text items.now schema.now rows.now) }
 {
-    let mut out = String::new(alloc);
-    write!(out, "rolis serial\nitems {}\n", items.len())?;
-    push_items(&mut out, items)?;
-    out.push_str("tables\n")?;
-    push_tables(&mut out, schema, rows)?;
+    let mut out = String::from_str(alloc, "rolis serial\n")?;
+    push_run(&mut out, items, schema, rows)?;
     Ok(out)
 }
