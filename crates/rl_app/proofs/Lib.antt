@@ -3,5 +3,6 @@ pub mod Commands
 pub mod Ranges
 pub mod Followed
 pub mod Opened
+pub mod Reported
 pub mod Runs
 pub mod Stepping

@@ -1,5 +1,7 @@
+pub mod Answers
 pub mod Command
 pub mod Runs
 pub mod Serial
 pub mod Serve
+pub mod Steps
 pub mod Texts

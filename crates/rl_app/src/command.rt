@@ -1,13 +1,16 @@
 //! The top call: which command some words are.
 
-ghost use Rattle.std.specs.Prelude.{◌≡◌, ◌⊎◌, ℕ, List, IfSome, true, false};
+ghost use Rattle.std.specs.Prelude.{◌≡◌, ◌⊎◌, ℕ, List, IfSome, Some, None};
 ghost use Rattle.rl_io.specs.Faults.{Rose};
-ghost use Rattle.rl_app.specs.Command.{is_serial};
-ghost use Rattle.rl_app.specs.Serial.{Answers, Reports, Faults, Limits, status_of};
+ghost use Rattle.rl_app.specs.declared.answer.Command.{Command};
+ghost use Rattle.rl_app.specs.Command.{command_of, report_of};
+ghost use Rattle.rl_app.specs.Answers.{Answers, Reports, Faults, Limits, status_of};
 ghost use Rattle.rl_app.specs.Serve.{usage_line, read_fault_line, memory_line, Means, Wrote, WroteFront};
 
+use crate::answer::Command;
 use crate::serial::serial;
 use crate::serve::{Status, deliver};
+use crate::steps::steps;
 use rl_io::sink::Sink;
 use rl_io::source::Source;
 use std::alloc::Global;
@@ -16,7 +19,7 @@ use std::alloc::Global;
 const USAGE: &str =
     "usage: rolis serial, steps, sim, live, check, gen script S N W R, gen run S N W R\n";
 
-/// Does all that the program does: the one word `serial` is the command of this name, and all
+/// Does all that the program does: the one word `serial` or `steps` is the command of this name, and all
 /// other words are status 2 (6 where its line can't be written).
 ///
 /// Status 0 with the report; 2 where the words are no command, and then nothing is read; 3 where
@@ -30,35 +33,39 @@ pub fn rolis<S: Source, K: Sink>(
     source: &mut S,
     sink: &mut K,
 ) -> Status
-    ensures report { result.code ≡ 0 → Reports (S.left source.old) (S.left source.new) (K.held sink.old) (K.held sink.new) }
-    ensures usage { result.code ≡ 2 → is_serial words.now ≡ false }
+    ensures report { result.code ≡ 0 → (c : Command) × (command_of words.now ≡ Some c) × Reports (report_of c) (S.left source.old) (S.left source.new) (K.held sink.old) (K.held sink.new) }
+    ensures usage { result.code ≡ 2 → command_of words.now ≡ None }
     ensures usage_line { result.code ≡ 2 → Wrote (K.held sink.old) (K.held sink.new) usage_line }
     ensures fault { result.code ≡ 3 → Faults (S.left source.old) (S.left source.new) (K.held sink.old) (K.held sink.new) }
     ensures limit { result.code ≡ 4 → Limits (S.left source.old) (S.left source.new) (K.held sink.old) (K.held sink.new) }
     ensures read_fault { result.code ≡ 5 → Rose (S.faults source.old) (S.faults source.new) }
     ensures read_fault_line { result.code ≡ 5 → Wrote (K.held sink.old) (K.held sink.new) read_fault_line }
     ensures write_fault { result.code ≡ 6 → Rose (K.faults sink.old) (K.faults sink.new) }
-    ensures front { result.code ≡ 6 → is_serial words.now ≡ true → (code : ℕ) × (text : List ℕ) × (Means Answers (S.left source.old) (S.left source.new) (Rose (S.faults source.old) (S.faults source.new)) code text × WroteFront (K.held sink.old) (K.held sink.new) text) }
-    ensures usage_front { result.code ≡ 6 → is_serial words.now ≡ false → WroteFront (K.held sink.old) (K.held sink.new) usage_line }
+    ensures front { (c : Command) → command_of words.now ≡ Some c → result.code ≡ 6 → (code : ℕ) × (text : List ℕ) × (Means (Answers (report_of c)) (S.left source.old) (S.left source.new) (Rose (S.faults source.old) (S.faults source.new)) code text × WroteFront (K.held sink.old) (K.held sink.new) text) }
+    ensures usage_front { result.code ≡ 6 → command_of words.now ≡ None → WroteFront (K.held sink.old) (K.held sink.new) usage_line }
     ensures memory_line { result.code ≡ 7 → Wrote (K.held sink.old) (K.held sink.new) memory_line }
-    ensures statuses { is_serial words.now ≡ true → IfSome (S.left source.old) (λ input. (result.code ≡ status_of input) ⊎ (result.code ≡ 5) ⊎ (result.code ≡ 6) ⊎ (result.code ≡ 7)) }
-    ensures other_words { is_serial words.now ≡ false → (result.code ≡ 2) ⊎ (result.code ≡ 6) }
-    ensures unread { is_serial words.now ≡ false → source.new ≡ source.old }
+    ensures statuses { (c : Command) → command_of words.now ≡ Some c → IfSome (S.left source.old) (λ input. (result.code ≡ status_of input) ⊎ (result.code ≡ 5) ⊎ (result.code ≡ 6) ⊎ (result.code ≡ 7)) }
+    ensures other_words { command_of words.now ≡ None → (result.code ≡ 2) ⊎ (result.code ≡ 6) }
+    ensures unread { command_of words.now ≡ None → source.new ≡ source.old }
     ensures known { (result.code ≡ 0) ⊎ (result.code ≡ 2) ⊎ (result.code ≡ 3) ⊎ (result.code ≡ 4) ⊎ (result.code ≡ 5) ⊎ (result.code ≡ 6) ⊎ (result.code ≡ 7) }
 {
-    if is_serial(words) {
-        serial(alloc, source, sink)
-    } else {
-        deliver(sink, Status { code: 2 }, USAGE.as_bytes())
+    match command_of(words) {
+        Some(Command::Serial) => serial(alloc, source, sink),
+        Some(Command::Steps) => steps(alloc, source, sink),
+        None => deliver(sink, Status { code: 2 }, USAGE.as_bytes()),
     }
 }
 
-/// Whether the words are the one word `serial`.
-fn is_serial(words: &[String]) -> bool
-    ensures { result ≡ is_serial words.now }
+/// The command that some words are, if they are one.
+fn command_of(words: &[String]) -> Option<Command>
+    ensures { result ≡ command_of words.now }
 {
     match words {
-        [word] => word.as_str() == "serial",
-        _ => false,
+        [word] => match word.as_str() {
+            "serial" => Some(Command::Serial),
+            "steps" => Some(Command::Steps),
+            _ => None,
+        },
+        _ => None,
     }
 }

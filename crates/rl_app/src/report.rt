@@ -1,6 +1,6 @@
 //! The report of a run.
 
-ghost use Rattle.std.specs.Prelude.{◌≡◌, ◌<◌, ◌++◌, length, ◌^◌, IfOk, OnOk};
+ghost use Rattle.std.specs.Prelude.{◌≡◌, ◌<◌, ◌++◌, length, ◌^◌, codes, IfOk, OnOk};
 ghost use Rattle.std.specs.Option.{option_copied};
 ghost use Rattle.std.specs.String.{string_bytes};
 ghost use Rattle.std.specs.List.{flat_map, range_with_len};
@@ -121,6 +121,22 @@ pub fn serial_report(
     ensures { IfOk result (λ text. string_bytes text ≡ serial_text items.now schema.now rows.now) }
 {
     let mut out = String::from_str(alloc, "rolis serial\n")?;
+    push_run(&mut out, items, schema, rows)?;
+    Ok(out)
+}
+
+/// The report of some steps, with the lines of the refusals.
+pub fn steps_report(
+    alloc: Global,
+    refused: &str,
+    items: &Items,
+    schema: &Schema,
+    rows: &Map,
+) -> Result<String, AllocError>
+    ensures { IfOk result (λ text. string_bytes text ≡ codes "rolis steps\n" ++ refused.now ++ run_text items.now schema.now rows.now) }
+{
+    let mut out = String::from_str(alloc, "rolis steps\n")?;
+    out.push_str(refused)?;
     push_run(&mut out, items, schema, rows)?;
     Ok(out)
 }

@@ -83,7 +83,14 @@ impl Run {
         let index = self.workers[at].next();
         let was_decided = self.workers[at].decided().is_some();
         let moved = self.workers[at].step(alloc, &mut self.words, layout, schema, lists)?;
-        push_refusal(&mut self.refused, layout, schema, worker, index, moved.refused)?;
+        push_refusal(
+            &mut self.refused,
+            layout,
+            schema,
+            worker,
+            index,
+            moved.refused,
+        )?;
         let item = first_of(alloc, was_decided, moved.ended, self.workers[at].decided())?;
         join(&mut self.decided, item)
     }
@@ -268,10 +275,16 @@ fn push_refused(
     let name = schema.name(table);
     match refusal {
         Refusal::Locked { word, .. } => {
-            write!(out, "refused 1 {worker} {index} locked {name} {key} {word}\n")?;
+            write!(
+                out,
+                "refused 1 {worker} {index} locked {name} {key} {word}\n"
+            )?;
         }
         Refusal::Changed { seen, found, .. } => {
-            write!(out, "refused 1 {worker} {index} changed {name} {key} {seen} {found}\n")?;
+            write!(
+                out,
+                "refused 1 {worker} {index} changed {name} {key} {seen} {found}\n"
+            )?;
         }
     }
     Ok(())

@@ -39,8 +39,8 @@ join-requires-clause-epoch c =
     let two : c.index-2.result.now ≡ x = c.index-2.ensures ∙ get_or_default run.workers.items (c.args.worker - 1) c.index-2.result.now x within ∙ sym c.index_mut.ensures.value in
     let three : c.index-3.result.now ≡ c.step.new.self = c.index-3.ensures ∙ get_or-set_same run.workers.items (c.args.worker - 1) c.step.new.self c.index-3.result.now within in
     let item : c.in_ok-item.item ≡ newly_decided x c.step.new.self c.in_ok-moved.moved = c.in_ok-item.ensures
-        ∙ first_is tables c.is_some-was_decided.result c.in_ok-moved.moved.ended (option_copied c.decided-2.result) c.decided.result x c.step.new.self c.in_ok-moved.moved
-          c.is_some-was_decided.ensures (c.decided.ensures ∙ ap decided_item two) (c.decided-2.ensures ∙ ap decided_item three) refl in
+    ∙ first_is tables c.is_some-was_decided.result c.in_ok-moved.moved.ended (option_copied c.decided-2.result) c.decided.result x c.step.new.self c.in_ok-moved.moved
+    c.is_some-was_decided.ensures (c.decided.ensures ∙ ap decided_item two) (c.decided-2.ensures ∙ ap decided_item three) refl in
     subst (λ o. IfSome o (λ y. y.stamp.epoch ≡ 1)) (sym item) (to_one (newly_decided x c.step.new.self c.in_ok-moved.moved) (epoch_of x) one t.stamped)
 
 pub returns : goal.returns
@@ -55,18 +55,18 @@ returns c = λ rows stamps core is.
     let two : c.index-2.result.now ≡ x = c.index-2.ensures ∙ get_or_default run.workers.items (k - 1) c.index-2.result.now x within ∙ sym c.index_mut.ensures.value in
     let three : c.index-3.result.now ≡ c.step.new.self = c.index-3.ensures ∙ get_or-set_same run.workers.items (k - 1) c.step.new.self c.index-3.result.now within in
     let item : c.in_ok-item.item ≡ newly_decided x c.step.new.self c.in_ok-moved.moved = c.in_ok-item.ensures
-        ∙ first_is tables c.is_some-was_decided.result c.in_ok-moved.moved.ended (option_copied c.decided-2.result) c.decided.result x c.step.new.self c.in_ok-moved.moved
-          c.is_some-was_decided.ensures (c.decided.ensures ∙ ap decided_item two) (c.decided-2.ensures ∙ ap decided_item three) refl in
+    ∙ first_is tables c.is_some-was_decided.result c.in_ok-moved.moved.ended (option_copied c.decided-2.result) c.decided.result x c.step.new.self c.in_ok-moved.moved
+    c.is_some-was_decided.ensures (c.decided.ensures ∙ ap decided_item two) (c.decided-2.ensures ∙ ap decided_item three) refl in
     let one = epoch tables lists run core is k c.requires.first c.requires.last x c.index_mut.ensures.value in
     let num = number tables lists run core is k c.requires.first c.requires.last x c.index_mut.ensures.value in
     let t0 = c.in_ok-moved.ensures.step rows stamps core (stands tables lists run core is k c.requires.first c.requires.last x c.index_mut.ensures.value) in
     let t : Steps tables x c.step.new.self c.step.new.words c.in_ok-moved.moved core (acts.step (setting_of tables lists rows stamps 1) core k) =
-        subst (λ n. Steps tables x c.step.new.self c.step.new.words c.in_ok-moved.moved core (acts.step (setting_of tables lists rows stamps 1) core n)) num
-        (subst (λ e. Steps tables x c.step.new.self c.step.new.words c.in_ok-moved.moved core (acts.step (setting_of tables lists rows stamps e) core (number_of x))) one t0) in
+    subst (λ n. Steps tables x c.step.new.self c.step.new.words c.in_ok-moved.moved core (acts.step (setting_of tables lists rows stamps 1) core n)) num
+    (subst (λ e. Steps tables x c.step.new.self c.step.new.words c.in_ok-moved.moved core (acts.step (setting_of tables lists rows stamps e) core (number_of x))) one t0) in
     let text = c.in_ok-push_refusal.ensures ∙ ap (λ q. string_bytes run.refused ++ option_map_or (refused_text tables k q) c.in_ok-moved.moved.refused []) (c.next-index.ensures ∙ ap next_of one_is) in
     both_ok c.join.result c.join.ensures.sorted (c.join.ensures.joined tables) (λ sorted joins.
-      subst (IsRun tables lists (record { words = c.step.new.words; workers = with_item run.workers (k - 1) c.step.new.self; decided = c.join.new.decided; refused = c.push_refusal.new.out }))
-      (sym (turned tables lists run core is k c.requires.first c.requires.last x c.index_mut.ensures.value rows stamps c.if-self-ge-END_SEQ.false))
-      (after tables lists run core is k c.requires.first c.requires.last x c.index_mut.ensures.value c.step.new.words c.step.new.self c.in_ok-moved.moved (acts.step (setting_of tables lists rows stamps 1) core k) t
-        (record { words = c.step.new.words; workers = with_item run.workers (k - 1) c.step.new.self; decided = c.join.new.decided; refused = c.push_refusal.new.out }) refl refl
-        c.in_ok-moved.ensures.fits c.in_ok-moved.ensures.records (joins ∙ ap (λ o. joined (option_map (core_item tables) o) (map (core_item tables) run.decided.items)) item) sorted text))
+    subst (IsRun tables lists (record { words = c.step.new.words; workers = with_item run.workers (k - 1) c.step.new.self; decided = c.join.new.decided; refused = c.push_refusal.new.out }))
+    (sym (turned tables lists run core is k c.requires.first c.requires.last x c.index_mut.ensures.value rows stamps c.if-self-ge-END_SEQ.false))
+    (after tables lists run core is k c.requires.first c.requires.last x c.index_mut.ensures.value c.step.new.words c.step.new.self c.in_ok-moved.moved (acts.step (setting_of tables lists rows stamps 1) core k) t
+    (record { words = c.step.new.words; workers = with_item run.workers (k - 1) c.step.new.self; decided = c.join.new.decided; refused = c.push_refusal.new.out }) refl refl
+    c.in_ok-moved.ensures.fits c.in_ok-moved.ensures.records (joins ∙ ap (λ o. joined (option_map (core_item tables) o) (map (core_item tables) run.decided.items)) item) sorted text))
