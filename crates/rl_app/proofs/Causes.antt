@@ -9,7 +9,7 @@ use Rattle.rl_script.specs.declared.fault.Problem.{Problem}
 use Rattle.rl_script.specs.declared.fault.Problem.TheVariants.{Fault, Limit}
 use Rattle.rl_script.specs.declared.script.Script.{Script}
 use Rattle.rl_app.specs.Serial.{IsReport, Refuses, AnswersRead, Answers, Reports, Faults, Limits, status_of_read, status_of}
-use Rattle.rl_app.specs.Serve.{input_limit, input_limit_line, fault_line, limit_line, read_fault_line, memory_line, Wrote, WroteFront, Means, Delivers}
+use Rattle.rl_app.specs.Serve.{input_limit, fault_line, limit_line, read_fault_line, memory_line, Wrote, WroteFront, Means, Delivers}
 
 -- a call of `serial` was served: what it meant to write, and what was written
 abbrev pub Served : Option (List ℕ) → Option (List ℕ) → Type 0 → Option (List ℕ) → Option (List ℕ) → Type 0 → ℕ → Type 0

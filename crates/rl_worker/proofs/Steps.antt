@@ -157,8 +157,14 @@ module _ (tables : List Table) (s : Setting) (old : Worker) (words : Words) (cor
             refusals = t.refusals ∙ ap (λ fs. option_to_list t.refusal ++ fs) after.refusals;
             refused = t.refused;
             of = of t.refusal t.of;
+            stamped = subst (λ o. IfSome (if is_some o then None else either told.ended (decided_item new)) (λ x. x.stamp.epoch ≡ old.epoch)) (none ∙ sym was)
+                (to_old (newly_decided w new told) t.stamped);
           })
         where
+          to_old : (o : Option items.Item) → IfSome o (λ x. x.stamp.epoch ≡ w.epoch) → IfSome o (λ x. x.stamp.epoch ≡ old.epoch)
+          to_old None h = tt
+          to_old (Some x) h = h ∙ attempt.epoch
+
           go : (o : Option items.Item) → o ≡ None → IfSome o (λ x. either told.ended (decided_item new) ≡ Some x)
           go None e = tt
           go (Some x) e = absurd (cc)
@@ -195,8 +201,14 @@ module _ (tables : List Table) (s : Setting) (old : Worker) (words : Words) (cor
         refusals = refl;
         refused = ap (λ (z : code.Moved). z.refused) is;
         of = tt;
+        stamped = nothing (either told.ended (decided_item old)) (is_some (decided_item old)) (ap (λ o. either told.ended o) none ∙ ended_only told.ended ended);
       })
     where
+      nothing : (o : Option items.Item) (b : Bool) → o ≡ None → IfSome (if b then None else o) (λ x. x.stamp.epoch ≡ old.epoch)
+      nothing o true e = tt
+      nothing None false e = tt
+      nothing (Some x) false e = absurd (cc)
+
       ended_only : (o : Option items.Item) → o ≡ None → either o None ≡ None
       ended_only None e = refl
       ended_only (Some x) e = absurd (cc)

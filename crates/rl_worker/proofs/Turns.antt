@@ -103,6 +103,7 @@ pub record Turned (tables : List Table) (s : Setting) (old new : Worker) (words 
   pub first : wins old.number to ≡ option_map (core_item tables) (newly_decided old new told)
   pub second : wins old.number (passed s old.number to) ≡ None
   pub kept : IfSome (decided_item old) (λ x. either told.ended (decided_item new) ≡ Some x)
+  pub stamped : IfSome (newly_decided old new told) (λ x. x.stamp.epoch ≡ old.epoch)
 
 -- then it is a step of the core
 pub turned : (tables : List Table) (txn : List Op) (s : Setting) (old new : Worker) (words words' : Words) (told : code.Moved) (core : Core)
@@ -134,6 +135,7 @@ turned tables txn s old new words words' told core fits st t =
       refusals = c.refusals ∙ b.refusals ∙ a.refusals;
       refused = a.told;
       of = go a.refusal a.of;
+      stamped = t.stamped;
     }
   where
     go : (o : Option acts.Refusal) → IfSome o (λ f. (f.worker ≡ old.number) × (f.index ≡ index_in (phase_of tables old))) → IfSome o (λ f. (f.worker ≡ old.number) × (f.index ≡ old.index))
@@ -147,6 +149,13 @@ none_new tables old new told n e =
     go : (b : Bool) → None ≡ (if b then None else either None (decided_item new))
     go true = refl
     go false = sym n
+
+newly_none : (old new : Worker) (told : code.Moved) → decided_item new ≡ None → told.ended ≡ None → newly_decided old new told ≡ None
+newly_none old new told n e = ap (λ o. if is_some (decided_item old) then None else either o (decided_item new)) e ∙ go (is_some (decided_item old))
+  where
+    go : (b : Bool) → (if b then None else either None (decided_item new)) ≡ None
+    go true = refl
+    go false = n
 
 reads_none : (st : Stage) → is_reading st ≡ true → decided_at st ≡ None
 reads_none stage.Resting h = absurd (false≢true h)
@@ -175,6 +184,7 @@ turned_loaded tables txn s old new words told reads attempt fits none act =
       first = stay.1 ∙ none_new tables old new told none a.ended;
       second = ap (wins old.number) stay.0 ∙ stay.1;
       kept = kept_none _ (decided_item old) (reads_none old.stage reads);
+      stamped = kept_none _ (newly_decided old new told) (newly_none old new told none a.ended);
     }
 
 still_asked : (q : ℕ) (reads : List Read) (o : Outcome) → passing (asked q reads o) ≡ false
@@ -199,6 +209,7 @@ turned_confirmed tables txn s old new words told asks reads attempt none c = go 
           first = none_new tables old new told none a.ended;
           second = stay.1;
           kept = kept_none _ (decided_item old) (reads_none old.stage reads);
+          stamped = kept_none _ (newly_decided old new told) (newly_none old new told none a.ended);
         }
     go (Err f) act ran =
         let a = act s old.number old.epoch in
@@ -211,6 +222,7 @@ turned_confirmed tables txn s old new words told asks reads attempt none c = go 
           first = none_new tables old new told none a.ended;
           second = refl;
           kept = kept_none _ (decided_item old) (reads_none old.stage reads);
+          stamped = kept_none _ (newly_decided old new told) (newly_none old new told none a.ended);
         }
 
 -- the item of a commit that is over
@@ -311,8 +323,8 @@ module _ (tables : List Table) (s : Setting) (old : Worker) (c : Commit) (i : c.
       record { phase = r.0; first = r.2 ∙ ap (option_map (core_item tables)) (sym r.3); second = r.1; kept = λ h. absurd (false≢true h) }
 
 turned_committed : (tables : List Table) (s : Setting) (old new : Worker) (words words' : Words) (told : code.Moved) → (c : Commits tables old new words words' told)
-    → c.was.item.worker ≡ old.number → c.was.item.index ≡ old.index → Turned tables s old new words words' told
-turned_committed tables s old new words words' told c w_is i_is =
+    → c.was.item.worker ≡ old.number → c.was.item.index ≡ old.index → c.was.item.stamp.epoch ≡ old.epoch → Turned tables s old new words words' told
+turned_committed tables s old new words words' told c w_is i_is e_is =
     let t = c.to in
     let m = comes tables s old t (c.attempt.index ∙ i_is) (c.attempt.worker ∙ w_is) t.part c.fits.part in
     let was : decided_item old ≡ (if is_storing c.was.part then Some c.was.item else None) = ap decided_at c.old_is in
@@ -331,8 +343,52 @@ turned_committed tables s old new words words' told c w_is i_is =
           ∙ ap (λ o. if is_some (decided_item old) then None else either told.ended o) (sym now));
       second = m.second;
       kept = keeps (is_storing c.was.part) refl (decided_item old) was (λ h. ap (λ o. either o (decided_item new)) c.ended ∙ ap (either (over_item (decided t))) now ∙ m.kept (c.attempt.part ∙ h) ∙ ap Some (c.attempt.decided h));
+      stamped = subst (λ o. IfSome o (λ x. x.stamp.epoch ≡ old.epoch)) (sym newly) (
+          epochs (is_some (decided_item old)) (over_item (decided t)) (decided_item (finished old (decided t))) (over_epoch (decided t) (e_of t t.part)) (last_epoch (decided t) (e_of t t.part)));
     }
   where
+    newly : newly_decided old new told ≡ (if is_some (decided_item old) then None else either (over_item (decided c.to)) (decided_item (finished old (decided c.to))))
+    newly = ap (λ o. if is_some (decided_item old) then None else either o (decided_item new)) c.ended ∙ ap (λ o. if is_some (decided_item old) then None else either (over_item (decided c.to)) o) (ap decided_item c.new_is)
+
+    to_epoch : c.to.item.stamp.epoch ≡ old.epoch
+    to_epoch = c.attempt.epoch ∙ e_is
+
+    e_of : (t : Commit) (p : Part) → (decided_in t p).item.stamp.epoch ≡ t.item.stamp.epoch
+    e_of t (part.Locking held) = refl
+    e_of t (part.Validating done) = go (done == length t.reads.0)
+      where
+        go : (b : Bool) → (if b then record t { part = part.Storing 0 0 } else t).item.stamp.epoch ≡ t.item.stamp.epoch
+        go true = refl
+        go false = refl
+    e_of t (part.Storing place stored) = refl
+    e_of t (part.Refusing place held) = refl
+
+    at_epoch : (d : Commit) → d.item.stamp.epoch ≡ c.to.item.stamp.epoch → IfSome (decided_at (stage.Committing d)) (λ x. x.stamp.epoch ≡ old.epoch)
+    at_epoch d e = go (is_storing d.part)
+      where
+        go : (b : Bool) → IfSome (if b then Some d.item else None) (λ x. x.stamp.epoch ≡ old.epoch)
+        go true = e ∙ to_epoch
+        go false = tt
+
+    over_epoch : (d : Commit) → d.item.stamp.epoch ≡ c.to.item.stamp.epoch → IfSome (over_item d) (λ x. x.stamp.epoch ≡ old.epoch)
+    over_epoch d e = go (is_over d d.part)
+      where
+        go : (b : Bool) → IfSome (if b then decided_at (stage.Committing d) else None) (λ x. x.stamp.epoch ≡ old.epoch)
+        go true = at_epoch d e
+        go false = tt
+
+    last_epoch : (d : Commit) → d.item.stamp.epoch ≡ c.to.item.stamp.epoch → IfSome (decided_item (finished old d)) (λ x. x.stamp.epoch ≡ old.epoch)
+    last_epoch d e = go (is_over d d.part)
+      where
+        go : (b : Bool) → IfSome (decided_item (if b then ended old d else record old { stage = stage.Committing d })) (λ x. x.stamp.epoch ≡ old.epoch)
+        go true = tt
+        go false = at_epoch d e
+
+    epochs : (b : Bool) (o p : Option txn.Item) → IfSome o (λ x. x.stamp.epoch ≡ old.epoch) → IfSome p (λ x. x.stamp.epoch ≡ old.epoch) → IfSome (if b then None else either o p) (λ x. x.stamp.epoch ≡ old.epoch)
+    epochs true o p h k = tt
+    epochs false None p h k = k
+    epochs false (Some x) p h k = h
+
     number : (d : Commit) → (finished old d).number ≡ old.number
     number d = go (is_over d d.part)
       where
@@ -366,4 +422,4 @@ stepped tables txn s old new words words' told core asks fits st (Confirmed same
     turned tables txn s old new words words' told core fits st (subst (λ z. Turned tables s old new words z told) (sym same) (turned_confirmed tables txn s old new words told asks reads attempt none c))
 stepped tables txn s old new words words' told core asks fits st (Committed c) =
     let mine : StageFits tables txn old (stage.Committing c.was) = subst (StageFits tables txn old) c.old_is fits in
-    turned tables txn s old new words words' told core fits st (turned_committed tables s old new words words' told c mine.1 mine.2)
+    turned tables txn s old new words words' told core fits st (turned_committed tables s old new words words' told c mine.1 mine.2 mine.3)

@@ -46,6 +46,15 @@ refusal_at r (Changed holder seen stamp) = refusals.Changed r (2 * seen) (2 * st
 abbrev pub refused : acts.Refusal → Refusal
 refused f = refusal_at f.rec f.cause
 
+-- the record of a refusal
+abbrev pub record_in : Refusal → ℕ
+record_in (refusals.Locked r word) = r
+record_in (refusals.Changed r seen found) = r
+
+-- a refusal is of a record that is there
+abbrev pub IsThere : List Table → Option Refusal → Type 0
+IsThere tables f = IfSome f (λ r. record_in r < sum (sizes_of tables))
+
 abbrev pub refusal_of : Event → Option Refusal
 refusal_of Quiet = None
 refusal_of (Drew reads answer writes) = None
@@ -352,6 +361,7 @@ pub record Steps (tables : List Table) (old new : Worker) (words : Words) (told 
   pub refusals : core'.refusals ≡ option_to_list refusal ++ core.refusals
   pub refused : told.refused ≡ option_map refused refusal
   pub of : IfSome refusal (λ f. (f.worker ≡ number_of old) × (f.index ≡ next_of old))
+  pub stamped : IfSome (newly_decided old new told) (λ x. x.stamp.epoch ≡ epoch_of old)
 
 -- the act that a step of a worker makes: none at rest with no request left
 abbrev pub act_made : Setting → ℕ → Core → ℕ → Act

@@ -5,7 +5,7 @@ ghost use Rattle.rl_value.specs.Tables.{Table, columns_of};
 ghost use Rattle.rl_tables.specs.Numbers.{sizes_of};
 ghost use Rattle.rl_worker.specs.Phases.{Setting};
 ghost use Rattle.rl_worker.specs.Opening.{cells_of};
-ghost use Rattle.rl_worker.specs.Workers.{CommitFits, HasMore, RecordsFit, RowHas, IsAct, IsOfAttempt, commit_phase, decided, is_over, is_storing};
+ghost use Rattle.rl_worker.specs.Workers.{CommitFits, HasMore, RecordsFit, RowHas, IsAct, IsThere, IsOfAttempt, commit_phase, decided, is_over, is_storing};
 
 use crate::act::{Act, Moved};
 use crate::reads::Reads;
@@ -56,6 +56,7 @@ impl Commit {
         requires more { held < length self.old.item.writes }
         ensures act { (s : Setting) → IsAct s self.old.item.worker self.old.item.stamp.epoch (commit_phase schema.now self.old) (commit_phase schema.now self.new) words.old words.new result }
         ensures fits { CommitFits schema.now self.new }
+        ensures there { IsThere schema.now result.refused }
         ensures attempt { IsOfAttempt self.old self.new }
         ensures records { RecordsFit schema.now words.new.records.items }
     {
@@ -84,6 +85,7 @@ impl Commit {
         requires next { words.old.next < 2 ^ 40 - 1 }
         ensures act { (s : Setting) → IsAct s self.old.item.worker self.old.item.stamp.epoch (commit_phase schema.now self.old) (commit_phase schema.now self.new) words.old words.new result }
         ensures fits { CommitFits schema.now self.new }
+        ensures there { IsThere schema.now result.refused }
         ensures attempt { IsOfAttempt self.old self.new }
         ensures records { words.new.records ≡ words.old.records }
     {
@@ -102,6 +104,7 @@ impl Commit {
         requires more { done < length self.old.reads.0 }
         ensures act { (s : Setting) → IsAct s self.old.item.worker self.old.item.stamp.epoch (commit_phase schema.now self.old) (commit_phase schema.now self.new) words.now words.now result }
         ensures fits { CommitFits schema.now self.new }
+        ensures there { IsThere schema.now result.refused }
         ensures attempt { IsOfAttempt self.old self.new }
     {
         let read = &self.reads.as_slice()[done];
@@ -140,6 +143,7 @@ impl Commit {
         requires more { place < length self.old.item.writes }
         ensures act { (s : Setting) → IsAct s self.old.item.worker self.old.item.stamp.epoch (commit_phase schema.now self.old) (commit_phase schema.now self.new) words.old words.new result }
         ensures fits { CommitFits schema.now self.new }
+        ensures there { IsThere schema.now result.refused }
         ensures attempt { IsOfAttempt self.old self.new }
         ensures records { RecordsFit schema.now words.new.records.items }
     {
@@ -194,6 +198,7 @@ impl Commit {
         requires more { place < held }
         ensures act { (s : Setting) → IsAct s self.old.item.worker self.old.item.stamp.epoch (commit_phase schema.now self.old) (commit_phase schema.now self.new) words.old words.new result }
         ensures fits { CommitFits schema.now self.new }
+        ensures there { IsThere schema.now result.refused }
         ensures attempt { IsOfAttempt self.old self.new }
         ensures records { RecordsFit schema.now words.new.records.items }
     {
@@ -218,6 +223,7 @@ impl Commit {
         requires next { words.old.next < 2 ^ 40 - 1 }
         ensures act { (s : Setting) → IsAct s self.old.item.worker self.old.item.stamp.epoch (commit_phase schema.now self.old) (commit_phase schema.now self.new) words.old words.new result }
         ensures fits { CommitFits schema.now self.new }
+        ensures there { IsThere schema.now result.refused }
         ensures attempt { IsOfAttempt self.old self.new }
         ensures records { RecordsFit schema.now words.new.records.items }
     {

@@ -14,7 +14,7 @@ ghost use Rattle.rl_worker.specs.declared.commit.Commit.{Commit};
 ghost use Rattle.rl_worker.specs.Phases.{asked, Rest, Setting};
 ghost use Rattle.rl_worker.specs.Acts.{Core, resting, idle, step};
 ghost use Rattle.rl_worker.specs.Opening.{outcome, request, setting_of};
-ghost use Rattle.rl_worker.specs.Workers.{IsAsking, StageFits, stage_phase, phase_of, WorkerFits, RecordsFit, IsAct, IsAttemptOf, Stands, number_of, epoch_of, next_of, decided_item, decided_at, is_reading, is_loaded, Confirms, ran_on, IsCommitting, Commits, ended, is_resting, IsActed, Steps, act_made};
+ghost use Rattle.rl_worker.specs.Workers.{IsAsking, StageFits, stage_phase, phase_of, WorkerFits, RecordsFit, IsAct, IsAttemptOf, Stands, number_of, epoch_of, next_of, decided_item, decided_at, is_reading, is_loaded, Confirms, ran_on, IsCommitting, Commits, ended, is_resting, IsThere, IsActed, Steps, act_made};
 
 use crate::act::{Act, Moved};
 use crate::commit::{Commit, Part};
@@ -208,6 +208,7 @@ impl Worker {
         ensures attempt { IsAttemptOf self.old self.new }
         ensures fits { StageFits schema.now txn.now self.new self.new.stage }
         ensures undecided { decided_item self.new ≡ None }
+        ensures there { IsThere schema.now result.refused }
     {
         let Stage::Reading(reading) = &mut self.stage else {
             unreachable!()
@@ -231,6 +232,7 @@ impl Worker {
         ensures attempt { IsAttemptOf self.old self.new }
         ensures fits { StageFits schema.now txn.now self.new self.new.stage }
         ensures undecided { decided_item self.new ≡ None }
+        ensures there { IsThere schema.now result.refused }
     {
         let Stage::Reading(reading) = mem::replace(&mut self.stage, Stage::Resting) else {
             unreachable!()
@@ -278,6 +280,7 @@ impl Worker {
         requires commits { IsCommitting schema.now self.old self.old.stage }
         requires index { self.old.index ≤ 8192 }
         ensures act { Commits schema.now self.old self.new words.old words.new result }
+        ensures there { IsThere schema.now result.refused }
         ensures records { RecordsFit schema.now words.new.records.items }
     {
         let Stage::Committing(commit) = &mut self.stage else {
@@ -317,6 +320,7 @@ impl Worker {
         requires records { RecordsFit schema.now words.old.records.items }
         requires next { words.old.next < 2 ^ 40 - 1 }
         ensures acted { IsActed schema.now txn.now self.old self.new words.old words.new result }
+        ensures there { IsThere schema.now result.refused }
         ensures records { RecordsFit schema.now words.new.records.items }
     {
         match &self.stage {
@@ -350,6 +354,7 @@ impl Worker {
         requires next { words.old.next < 2 ^ 40 - 1 }
         ensures step { (rows : Rows) (stamps : List ℕ) (core : Core) → Stands schema.now self.old words.old core → IfOk result (λ told. Steps schema.now self.old self.new words.new told core (step (setting_of schema.now lists.now rows stamps (epoch_of self.old)) core (number_of self.old))) }
         ensures act { (rows : Rows) (stamps : List ℕ) (core : Core) → Stands schema.now self.old words.old core → IfOk result (λ told. told.act ≡ act_made (setting_of schema.now lists.now rows stamps (epoch_of self.old)) words.old.next core (number_of self.old)) }
+        ensures there { IfOk result (λ told. IsThere schema.now told.refused) }
         ensures fits { IfOk result (λ _. WorkerFits schema.now lists.now self.new) }
         ensures records { IfOk result (λ _. RecordsFit schema.now words.new.records.items) }
         ensures at_rest { IsErr result → resting (phase_of schema.now self.old) ≡ true }

@@ -1,0 +1,5 @@
+pub mod Appends
+pub mod BatchLaws
+pub mod ItemLaws
+pub mod Rising
+pub mod WriteLaws

@@ -1,0 +1,7 @@
+use Rattle.std.proofs.Common.{◌≡◌, ◌++◌, take}
+use Rattle.std.specs.List.{flat_map}
+use Rattle.rl_batch.specs.Spelling.{write_bytes}
+use Rattle.rl_batch.proofs.write.push_writes.Given as goal
+
+abbrev pub invariant-loop-write : goal.invariant-loop-write
+invariant-loop-write l = l.out ≡ l.initial.out ++ flat_map write_bytes (take l.write-index l.writes)

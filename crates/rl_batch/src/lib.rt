@@ -1,0 +1,11 @@
+//! The bytes of batches, in which streams carry them.
+#![tactic(auto)]
+
+pub mod batch_error;
+pub mod decode;
+pub mod encode;
+mod item;
+mod row;
+#[cfg(test)]
+mod tests;
+mod write;

@@ -1,0 +1,4 @@
+pub mod Appends
+pub mod FieldLaws
+pub mod Loops
+pub mod SeriesLaws

@@ -1,0 +1,2 @@
+pub mod MsgLaws
+pub mod Zips

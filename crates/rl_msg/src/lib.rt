@@ -1,0 +1,11 @@
+//! The messages of nodes, and their bytes.
+#![tactic(auto)]
+
+pub mod decode;
+pub mod encode;
+mod head;
+mod log;
+pub mod msg;
+pub mod msg_error;
+#[cfg(test)]
+mod tests;
