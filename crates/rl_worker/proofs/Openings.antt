@@ -2,8 +2,8 @@
 use Rattle.std.proofs.Common.{◌≡◌, ℕ, zero, suc, ◌+◌, ◌<◌, List, [], ◌∷◌, ◌++◌, length, map, slice_get, slice_index, Option, Some, None, refl, ap, sym, ◌∙◌, subst, arith, All, inl, inr, ◌≤◌, ◌^◌}
 use Rattle.std.specs.List.{range_with_len}
 use Rattle.std.specs.FinMap as finite
-use Rattle.rl_value.specs.Rows.{Rows}
-use Rattle.rl_value.specs.Tables.{Table, columns_of}
+use Rattle.rl_value.specs.Rows.{Rows, place_cmp}
+use Rattle.rl_value.specs.Tables.{Table, size_of, columns_of}
 use Rattle.rl_tables.specs.Numbers.{sizes_of, place_of}
 use Rattle.rl_txn.proofs.Folds.{range_push}
 use Rattle.rl_worker.specs.declared.words.Record.{Record}
@@ -75,3 +75,10 @@ fits_more tables r xs x n old new i l = elim (cases_lt i r) [
     get_or_append_seam : (ys : List Record) (y : Record) → found (ys ++ y ∷ []) (length ys) ≡ y
     get_or_append_seam [] y = refl
     get_or_append_seam (z ∷ ys) y = get_or_append_seam ys y
+
+-- no rows fit any tables
+pub no_rows_fit : (tables : List Table) → RowsFit tables finite.empty
+no_rows_fit tables t k row e = none (finite.get-empty place_cmp (t, k)) e
+  where
+    none : finite.get (finite.empty {K = ℕ × ℕ} {X = List ℕ} {R = place_cmp}) (t, k) ≡ None → finite.get (finite.empty {K = ℕ × ℕ} {X = List ℕ} {R = place_cmp}) (t, k) ≡ Some row → (t < length tables) × (k < size_of tables t) × (length row ≡ columns_of tables t)
+    none n s = absurd (cc)

@@ -115,17 +115,15 @@ impl Record {
 #[cfg(test)]
 mod tests {
     use super::*;
-    use rl_value::row::Row;
     use std::test::Fail;
 
     #[test]
-    fn opens_with_rows_and_stamps(rt: HostRuntime) -> Result<(), Fail> {
+    fn opens_with_stamps(rt: HostRuntime) -> Result<(), Fail> {
         let alloc = rt.alloc();
         let mut schema = Schema::new(alloc);
         schema.declare(alloc, "t", 2, 2)?;
         let layout = Layout::new(alloc, &schema)?;
-        let mut map = Map::new(alloc);
-        map.put(0, 1, Row::from_slice(&[7, 8]))?;
+        let map = Map::new(alloc);
         let mut stamps = Stamps::new(alloc);
         stamps.push(0)?;
         stamps.push(9)?;
