@@ -12,6 +12,7 @@ pub mod Lift
 pub mod Local
 pub mod Made
 pub mod Numbers
+pub mod OneRow
 pub mod Openings
 pub mod Places
 pub mod Readings

@@ -371,3 +371,192 @@ impl Worker {
         Ok(self.act(words, layout, schema, txn))
     }
 }
+
+ghost use Rattle.std.specs.Prelude.{All};
+ghost use Rattle.rl_value.specs.Tables.{columns_of};
+
+#[cfg(test)]
+mod tests {
+    use super::*;
+    use rl_base::list::Stamps;
+    use rl_txn::op::{Op, Operand, Operands, Requests};
+    use rl_value::map::Map;
+    use rl_value::row::Row;
+    use std::process::Abort;
+    use std::test::Fail;
+
+    /// The word of the first stamp that is drawn.
+    const FIRST_WORD: u64 = 2 * ((1 << 40) + 2);
+
+    /// The tables and the requests of an open leader.
+    #[derive(Drop)]
+    struct Leader {
+        schema: Schema,
+        layout: Layout,
+        lists: Lists,
+    }
+
+    /// Adds 1 to a key's column, and puts the sum out.
+    fn adds_one(alloc: Global, schema: &Schema) -> Result<Txn, Memory>
+        requires tables { length schema.now ≡ 1 }
+        requires columns { columns_of schema.now 0 ≡ 1 }
+        ensures { IfOk result (λ txn. TxnFits schema.now txn) }
+    {
+        let (table, key) = (0, Operand::Num(0));
+        let mut values = Operands::new(alloc);
+        values.push(Operand::Reg(0))?;
+        let mut txn = Txn::new(alloc);
+        txn.push(Op::Get {
+            table,
+            key,
+            column: 0,
+            d: 0,
+        })?;
+        txn.push(Op::Add {
+            d: 0,
+            a: Operand::Reg(0),
+            b: Operand::Num(1),
+        })?;
+        txn.push(Op::Put { table, key, values })?;
+        txn.push(Op::Out { a: Operand::Reg(0) })?;
+        Ok(txn)
+    }
+
+    /// The list of a worker with this one request.
+    fn list_of(alloc: Global, schema: &Schema) -> Result<Requests, Memory>
+        requires tables { length schema.now ≡ 1 }
+        requires columns { columns_of schema.now 0 ≡ 1 }
+        ensures fits { IfOk result (λ list. All (TxnFits schema.now) list) }
+        ensures one { IfOk result (λ list. length list ≡ 1) }
+    {
+        let mut list = Requests::new(alloc);
+        list.push(adds_one(alloc, schema)?)?;
+        Ok(list)
+    }
+
+    /// One key, which opens with 10, and two workers that each add 1 to it.
+    fn opened(alloc: Global) -> Result<(Leader, Words), Fail>
+        ensures layout { IfOk result (λ opened. opened.0.layout ≡ sizes_of opened.0.schema) }
+        ensures lists { IfOk result (λ opened. ListsFit opened.0.schema opened.0.lists) }
+        ensures two { IfOk result (λ opened. length opened.0.lists ≡ 2) }
+        ensures records { IfOk result (λ opened. RecordsFit opened.0.schema opened.1.records.items) }
+    {
+        let mut schema = Schema::new(alloc);
+        schema.declare(alloc, "a", 1, 1)?;
+        let layout = Layout::new(alloc, &schema)?;
+        let mut map = Map::new(alloc);
+        map.put(0, 0, Row::from_slice(&[10]))?;
+        let mut stamps = Stamps::new(alloc);
+        stamps.push(0)?;
+        let words = Words::at(alloc, &layout, &schema, &map, &stamps)?;
+        let mut lists = Lists::new(alloc);
+        lists.push(list_of(alloc, &schema)?)?;
+        lists.push(list_of(alloc, &schema)?)?;
+        let leader = Leader {
+            schema,
+            layout,
+            lists,
+        };
+        Ok((leader, words))
+    }
+
+    /// A worker makes these acts. Answers what the last one came to.
+    fn follow(
+        rt: &impl Abort,
+        alloc: Global,
+        leader: &Leader,
+        words: &mut Words,
+        worker: &mut Worker,
+        acts: &[Act],
+    ) -> Result<Moved, Fail>
+        requires layout { leader.now.layout ≡ sizes_of leader.now.schema }
+        requires lists { ListsFit leader.now.schema leader.now.lists }
+        requires records { RecordsFit leader.now.schema words.old.records.items }
+        requires fits { WorkerFits leader.now.schema leader.now.lists worker.old }
+        ensures records { IfOk result (λ _. RecordsFit leader.now.schema words.new.records.items) }
+        ensures fits { IfOk result (λ _. WorkerFits leader.now.schema leader.now.lists worker.new) }
+    {
+        let mut last = Moved::by(Act::Rest, None);
+        for act in acts {
+            assert!(rt; words.next < 10);
+            last = worker.step(alloc, words, &leader.layout, &leader.schema, &leader.lists)?;
+            assert_eq!(rt; last.act, *act);
+        }
+        Ok(last)
+    }
+
+    #[test]
+    fn an_attempt_reads_locks_draws_validates_and_installs(rt: HostRuntime) -> Result<(), Fail> {
+        let alloc = rt.alloc();
+        let (leader, mut words) = opened(alloc)?;
+        let mut worker = Worker::new(1, 1, 1);
+        let (rec, word) = (0, FIRST_WORD);
+        let acts = [
+            Act::FirstLoad { rec, word: 0 },
+            Act::ColumnLoad {
+                rec,
+                column: 0,
+                value: 1,
+            },
+            Act::ColumnLoad {
+                rec,
+                column: 1,
+                value: 10,
+            },
+            Act::Confirm { rec, word: 0 },
+            Act::Lock { rec, word: 0 },
+            Act::Draw { seq: 2 },
+            Act::Validate { rec, word: 1 },
+            Act::ColumnStore {
+                rec,
+                column: 0,
+                value: 1,
+            },
+            Act::ColumnStore {
+                rec,
+                column: 1,
+                value: 11,
+            },
+            Act::Close { rec, word },
+        ];
+        let moved = follow(&rt, alloc, &leader, &mut words, &mut worker, &acts)?;
+        let Some(item) = moved.ended else {
+            return Err("no item".into());
+        };
+        assert_eq!(rt; item.stamp, Stamp { epoch: 1, seq: 2 });
+        assert_eq!(rt; item.reply.outs.as_slice(), [11].as_slice());
+        let moved = follow(&rt, alloc, &leader, &mut words, &mut worker, &[Act::Rest])?;
+        assert!(rt; moved.ended.is_none() && worker.next() == 2);
+        Ok(())
+    }
+
+    #[test]
+    fn a_locked_record_refuses_the_second_worker(rt: HostRuntime) -> Result<(), Fail> {
+        let alloc = rt.alloc();
+        let (leader, mut words) = opened(alloc)?;
+        let mut first = Worker::new(1, 1, 1);
+        let mut second = Worker::new(2, 1, 1);
+        let rec = 0;
+        let acts = [
+            Act::FirstLoad { rec, word: 0 },
+            Act::ColumnLoad {
+                rec,
+                column: 0,
+                value: 1,
+            },
+            Act::ColumnLoad {
+                rec,
+                column: 1,
+                value: 10,
+            },
+            Act::Confirm { rec, word: 0 },
+            Act::Lock { rec, word: 0 },
+        ];
+        follow(&rt, alloc, &leader, &mut words, &mut first, &acts)?;
+        let acts = [Act::FirstLoad { rec, word: 1 }];
+        let moved = follow(&rt, alloc, &leader, &mut words, &mut second, &acts)?;
+        assert_eq!(rt; moved.refused, Some(Refusal::Locked { rec, word: 1 }));
+        assert!(rt; second.at_rest() && second.next() == 1);
+        Ok(())
+    }
+}

@@ -1,0 +1,63 @@
+#!/usr/bin/env bash
+# Instructions of `rolis steps` for 1,000 to 16,000 steps of two workers on 64 accounts, and for each step.
+# Repeatable: it counts instructions (valgrind's callgrind, or perf), and measures no time.
+# `steps.sh --script STEPS` prints the script of so many steps, and counts nothing.
+set -u
+top=$(cd "$(dirname "$0")/.." && pwd)
+binary=$top/crates/rl_cli/out/rl_cli
+work=$(mktemp -d)
+trap 'rm -rf "$work"' EXIT
+
+# A transfer takes 19 steps, so there is a request left for every step. The workers take turns of at most 5 steps.
+script() {
+  awk -v steps="$1" 'BEGIN {
+    print "rolis 1"; print "workers 2"; print "table acct 64 1"
+    for (key = 0; key < 64; key++) print "row acct " key " 1000"
+    requests = 2 * int(steps / 38 + 2)
+    for (i = 1; i <= requests; i++) {
+      from = i % 64; to = (3 * i + 1) % 64; if (to == from) to = (to + 1) % 64
+      amount = i % 9 + 1
+      print "txn " (i - 1) % 2 + 1 "\nget acct " from " 0 r0\nneed r0 ge " amount "\nsub r0 r0 " amount "\nput acct " from " r0"
+      print "get acct " to " 0 r1\nadd r1 r1 " amount "\nput acct " to " r1\nend"
+    }
+    print "events"
+    for (left = steps; left > 0; left -= turn) {
+      turn = left < 5 ? left : 5
+      print "step 1 " turns++ % 2 + 1 " " turn
+    }
+  }'
+}
+
+count() {
+  if command -v valgrind >/dev/null 2>&1; then
+    valgrind --tool=callgrind --callgrind-out-file="$work/out" "$binary" steps <"$work/in" 2>&1 >/dev/null |
+      sed -n 's/.*Collected : *\([0-9]*\).*/\1/p'
+  elif perf stat -e instructions:u true >/dev/null 2>&1; then
+    perf stat -x, -e instructions:u -o "$work/perf" "$binary" steps <"$work/in" >/dev/null && awk -F, '/instructions/ { print $1 }' "$work/perf"
+  fi
+}
+
+if [ "${1:-}" = --script ]; then
+  script "${2:-1000}"
+  exit 0
+fi
+if [ ! -x "$binary" ]; then
+  echo "bench: build the program first: ./rolis serial < examples/two_transfers.rolis" >&2
+  exit 1
+fi
+script 1000 >"$work/in"
+if ! "$binary" steps <"$work/in" >"$work/told"; then
+  echo "bench: 'rolis steps' did not run: $(head -n 1 "$work/told")" >&2
+  exit 1
+fi
+if ! command -v valgrind >/dev/null 2>&1 && ! perf stat -e instructions:u true >/dev/null 2>&1; then
+  echo "bench: skipped, since neither valgrind nor perf counts instructions here" >&2
+  exit 0
+fi
+echo "| steps | instructions | for each step |"
+echo "|---|---|---|"
+for steps in 1000 2000 4000 8000 16000; do
+  script "$steps" >"$work/in"
+  instructions=$(count)
+  echo "| $steps | $instructions | $((instructions / steps)) |"
+done
