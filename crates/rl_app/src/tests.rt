@@ -84,6 +84,34 @@ fn scripts_have_their_reports(rt: HostRuntime) -> Result<(), Fail> {
     Ok(())
 }
 
+#[test]
+fn steps_have_their_reports(rt: HostRuntime) -> Result<(), Fail> {
+    let cases = [
+        (
+            "rolis 1\nworkers 2\ntable a 2 1\nrow a 0 10\ntxn 1\nget a 0 0 r0\nadd r0 r0 1\nput a 0 r0\nout r0\nend\ntxn 2\nget a 0 0 r0\nadd r0 r0 1\nput a 0 r0\nout r0\nend\nevents\nstep 1 2 4\nstep 1 1 10\nstep 1 2 3\nstep 1 2 11",
+            "rolis steps\nrefused 1 2 1 changed a 0 0 2199023255556\nitems 2\nitem 1 2 1 1 done 11\nitem 1 4 2 1 done 12\ntables\nrow a 0 12\n",
+        ),
+        (
+            "rolis 1\nworkers 2\ntable a 2 1\nrow a 0 10\ntxn 1\nget a 0 0 r0\nadd r0 r0 1\nput a 0 r0\nout r0\nend\ntxn 2\nget a 0 0 r0\nadd r0 r0 1\nput a 0 r0\nout r0\nend\nevents\nstep 1 1 5\nstep 1 2 1\nstep 1 1 5\nstep 1 2 10",
+            "rolis steps\nrefused 1 2 1 locked a 0 1\nitems 2\nitem 1 2 1 1 done 11\nitem 1 3 2 1 done 12\ntables\nrow a 0 12\n",
+        ),
+        (
+            "rolis 1\nworkers 2\ntable a 2 1\nrow a 0 1\nrow a 1 1\ntxn 1\nget a 0 0 r0\nget a 1 0 r1\nadd r2 r0 r1\nneed r2 ge 2\nput a 0 0\nout r2\nend\ntxn 2\nget a 0 0 r0\nget a 1 0 r1\nadd r2 r0 r1\nneed r2 ge 2\nput a 1 0\nout r2\nend\nevents\nstep 1 1 8\nstep 1 2 8\nstep 1 1 2\nstep 1 2 2\nstep 1 1 2\nstep 1 1 1\nstep 1 2 5\nstep 1 1 11",
+            "rolis steps\nrefused 1 1 1 locked a 1 1\nitems 2\nitem 1 3 2 1 done 2\nitem 1 4 1 1 declined 4\ntables\nrow a 0 1\nrow a 1 0\n",
+        ),
+        (
+            "rolis 1\nworkers 2\ntable p 1 2\nrow p 0 1 1\ntxn 1\nput p 0 2 2\nend\ntxn 2\nget p 0 0 r0\nget p 0 1 r1\nout r0\nout r1\nend\nevents\nstep 1 2 3\nstep 1 1 6\nstep 1 2 2\nall\nstep 1 2 7",
+            "rolis steps\nrefused 1 2 1 changed p 0 0 2199023255556\nitems 2\nitem 1 2 1 1 done\nitem 1 3 2 1 done 2 2\ntables\nrow p 0 2 2\n",
+        ),
+    ];
+    for (input, output) in cases {
+        let (status, held) = outcome(rt.alloc(), &["steps"], input.as_bytes(), 0, 0)?;
+        assert_eq!(rt; status, 0, "{input}");
+        assert_eq!(rt; held.as_slice(), output.as_bytes(), "{input}");
+    }
+    Ok(())
+}
+
 /// Words that are no command have the usage line.
 fn refused(rt: &impl Abort, alloc: Global, words: &[&str]) -> Result<(), Fail> {
     let usage =
