@@ -18,7 +18,7 @@ use Rattle.rl_worker.specs.Phases.{Rest, Setting}
 use Rattle.rl_worker.specs.Acts as acts
 use Rattle.rl_worker.specs.Acts.{Core, Turn, Step, may, turn, step}
 use Rattle.rl_worker.specs.Opening.{setting_of}
-use Rattle.rl_worker.specs.Workers.{Stands, Steps, WorkerFits, RecordsFit, number_of, epoch_of, next_of, phase_of, decided_item, newly_decided, either, core_item, joined, refused, stamp_next}
+use Rattle.rl_worker.specs.Workers.{Stands, Steps, WorkerFits, RecordsFit, number_of, epoch_of, next_of, phase_of, decided_item, newly_decided, either, core_item, joined, refused, stamp_next, IsOf}
 use Rattle.rl_app.specs.declared.run.Run.{Run}
 use Rattle.rl_app.specs.Texts.{refused_text, refusal_text}
 use Rattle.rl_app.specs.Runs.{IsByStamp, IsPlaced, IsRun}
@@ -74,9 +74,9 @@ both_ok (Ok a) p q f = f p q
 both_ok (Err b) p q f = tt
 
 -- an epoch that is the first
-pub to_one : (o : Option Item) (e : ℕ) → e ≡ 1 → IfSome o (λ y. y.stamp.epoch ≡ e) → IfSome o (λ y. y.stamp.epoch ≡ 1)
-to_one None e is h = tt
-to_one (Some y) e is h = h ∙ is
+pub to_one : (o : Option Item) (w : Worker) → epoch_of w ≡ 1 → IfSome o (IsOf w) → IfSome o (λ y. y.stamp.epoch ≡ 1)
+to_one None w is h = tt
+to_one (Some y) w is h = h.0 ∙ is
 
 module _ (tables : List Table) (lists : List (List (List Op))) (run : Run) (core : Core) (is : IsRun tables lists run core) (k : ℕ) (first : 1 ≤ k) (last : k ≤ length lists) (x : Worker) (x_is : x ≡ get_or run.workers.items (k - 1) x) where
   within : k - 1 < length run.workers.items

@@ -12,7 +12,7 @@ use Rattle.rl_worker.specs.declared.words.Words.{Words}
 use Rattle.rl_worker.specs.Phases.{Answer, Read, Install, Rec, Outcome, Phase, Rest, Asking, Wanting, Loading, Locking, Validating, Storing, Refusing, Setting, other, asked, with_read}
 use Rattle.rl_worker.specs.Items.{Item, place}
 use Rattle.rl_worker.specs.Acts as acts
-use Rattle.rl_worker.specs.Acts.{Cause, Locked, Changed, Event, Quiet, Drew, Won, Lost, LostDrawn, Core, no_rec, target, quiet, lost, lost_drawn, moved, first_load_of, confirm_of, lock_of, next_after, decided_after, refusals_after, won, passing, resting, micro, settle}
+use Rattle.rl_worker.specs.Acts.{Cause, Locked, Changed, Event, Quiet, Drew, Won, Lost, LostDrawn, Core, no_rec, target, quiet, lost, lost_drawn, moved, first_load_of, confirm_of, lock_of, next_after, decided_after, refusals_after, made_after, won, passing, resting, micro, settle}
 use Rattle.rl_worker.specs.Workers.{found, refused, refusal_of, made, stamp_next, IsAct, joined}
 
 -- the phase after one passing phase is passed
@@ -77,6 +77,13 @@ none_won xs (Won x) h = absurd (cc)
 none_won xs (Lost f) h = refl
 none_won xs (LostDrawn t f) h = refl
 
+none_made : (xs : List (ℕ × ℕ)) (e : Event) → won e ≡ None → made_after xs e ≡ xs
+none_made xs Quiet h = refl
+none_made xs (Drew reads answer writes) h = refl
+none_made xs (Won x) h = absurd (cc)
+none_made xs (Lost f) h = refl
+none_made xs (LostDrawn t f) h = refl
+
 -- an act that is made wins nothing, and a refusal is that of the phase's request
 abbrev pub Plain : ℕ → ℕ → Event → Type 0
 Plain w q e = (won e ≡ None) × IfSome (lost_in e) (λ f. (f.worker ≡ w) × (f.index ≡ q))
@@ -120,6 +127,7 @@ pub record Acted (core core' : Core) (w : ℕ) (p p' : Phase) (words' : Words) (
   pub at : At core' w p' words'.records.items (stamp_next e words')
   pub workers : core'.workers ≡ set core.workers w p'
   pub decided : core'.decided ≡ core.decided
+  pub made : core'.made ≡ core.made
   pub refusal : Option acts.Refusal
   pub refusals : core'.refusals ≡ option_to_list refusal ++ core.refusals
   pub told : t.refused ≡ option_map refused refusal
@@ -145,24 +153,31 @@ acted s core w e p p' words words' told still at a =
       };
       workers = ap (set core.workers w) ph;
       decided = none_won core.decided m.event (ap won ev ∙ none.0);
+      made = none_made core.made m.event (ap won ev ∙ none.0);
       refusal = lost_in (made s w e p words).event;
       refusals = lost_added core.refusals m.event ∙ ap (λ z. option_to_list (lost_in z) ++ core.refusals) ev;
       told = a.refused ∙ lost_told (made s w e p words).event;
       of = none.1;
     }
 
+-- the stamp of an item that is won
+abbrev pub stamps_added : Option Item → List (ℕ × ℕ)
+stamps_added None = []
+stamps_added (Some x) = (x.worker, x.stamp) ∷ []
+
 -- a passing phase is passed
 pub record Settled (core core' : Core) (w : ℕ) (p' : Phase) (o : Option Item) (recs : List Rec) (n : ℕ) : Type 0 where
   pub at : At core' w p' recs n
   pub workers : core'.workers ≡ set core.workers w p'
   pub decided : core'.decided ≡ joined o core.decided
+  pub made : core'.made ≡ stamps_added o ++ core.made
   pub refusals : core'.refusals ≡ core.refusals
 
 module _ (s : Setting) (core : Core) (w : ℕ) (recs : List Rec) (n : ℕ) where
   -- an act that looks at no record
   idle_act : (p p' : Phase) (e : Event) → At core w p recs n → ((x : Rec) (k : ℕ) → moved s w k p x ≡ record { phase = p'; rec = x; event = e }) → ((k : ℕ) → next_after k e ≡ k) → (o : Option Item) → ((xs : List Item) → decided_after xs e ≡ joined o xs)
-      → ((xs : List acts.Refusal) → refusals_after xs e ≡ xs) → Settled core (micro s core w) w p' o recs n
-  idle_act p p' e at is same o adds none =
+      → ((xs : List acts.Refusal) → refusals_after xs e ≡ xs) → ((xs : List (ℕ × ℕ)) → made_after xs e ≡ stamps_added o ++ xs) → Settled core (micro s core w) w p' o recs n
+  idle_act p p' e at is same o adds none makes =
       let found_rec : Rec = get_or core.recs (target (acts.phase_of core w)) no_rec in
       let m : acts.Moved = moved s w core.next (acts.phase_of core w) found_rec in
       let m_is : m ≡ record { phase = p'; rec = found_rec; event = e } = ap (λ (z : Phase). moved s w core.next z found_rec) at.phase ∙ is found_rec core.next in
@@ -178,6 +193,7 @@ module _ (s : Setting) (core : Core) (w : ℕ) (recs : List Rec) (n : ℕ) where
         workers = ap (set core.workers w) ph;
         decided = ap (decided_after core.decided) ev ∙ adds core.decided;
         refusals = ap (refusals_after core.refusals) ev ∙ none core.refusals;
+        made = ap (made_after core.made) ev ∙ makes core.made;
       }
 
   stays : (p : Phase) → At core w p recs n → passing p ≡ false → Settled core (settle s core w) w p None recs n
@@ -189,6 +205,7 @@ module _ (s : Setting) (core : Core) (w : ℕ) (recs : List Rec) (n : ℕ) where
         workers = sym (ap (set core.workers w) (sym at.phase) ∙ set-get_or core.workers w (Rest 0));
         decided = refl;
         refusals = refl;
+        made = refl;
       })
 
   goes : (p p' : Phase) (o : Option Item) → At core w p recs n → passing p ≡ true → Settled core (micro s core w) w p' o recs n → Settled core (settle s core w) w p' o recs n
@@ -199,17 +216,17 @@ module _ (s : Setting) (core : Core) (w : ℕ) (recs : List Rec) (n : ℕ) where
 
   pub settled : (p : Phase) → At core w p recs n → Settled core (settle s core w) w (passed s w p) (wins w p) recs n
   settled (Rest q) at = stays (Rest q) at refl
-  settled (Asking q reads) at = goes (Asking q reads) (asked q reads (s.ask w q reads)) None at refl (idle_act (Asking q reads) _ Quiet at (λ x k. refl) (λ k. refl) None (λ xs. refl) (λ xs. refl))
+  settled (Asking q reads) at = goes (Asking q reads) (asked q reads (s.ask w q reads)) None at refl (idle_act (Asking q reads) _ Quiet at (λ x k. refl) (λ k. refl) None (λ xs. refl) (λ xs. refl) (λ xs. refl))
   settled (Wanting q reads r) at = stays (Wanting q reads r) at refl
   settled (Loading q reads r seen loaded) at = stays (Loading q reads r seen loaded) at refl
   settled (Locking q reads answer l todo) at = stays (Locking q reads answer l todo) at refl
   settled (Validating q t done [] answer writes) at =
       let item : Item = record { stamp = t; worker = w; index = q; answer = answer; writes = writes } in
-      goes (Validating q t done [] answer writes) (Storing q t 0 writes) (Some item) at refl (idle_act (Validating q t done [] answer writes) _ (Won item) at (λ x k. refl) (λ k. refl) (Some item) (λ xs. refl) (λ xs. refl))
+      goes (Validating q t done [] answer writes) (Storing q t 0 writes) (Some item) at refl (idle_act (Validating q t done [] answer writes) _ (Won item) at (λ x k. refl) (λ k. refl) (Some item) (λ xs. refl) (λ xs. refl) (λ xs. refl))
   settled (Validating q t done (y ∷ todo) answer writes) at = stays (Validating q t done (y ∷ todo) answer writes) at refl
-  settled (Storing q t j []) at = goes (Storing q t j []) (Rest (suc q)) None at refl (idle_act (Storing q t j []) _ Quiet at (λ x k. refl) (λ k. refl) None (λ xs. refl) (λ xs. refl))
+  settled (Storing q t j []) at = goes (Storing q t j []) (Rest (suc q)) None at refl (idle_act (Storing q t j []) _ Quiet at (λ x k. refl) (λ k. refl) None (λ xs. refl) (λ xs. refl) (λ xs. refl))
   settled (Storing q t j (y ∷ todo)) at = stays (Storing q t j (y ∷ todo)) at refl
-  settled (Refusing q []) at = goes (Refusing q []) (Rest q) None at refl (idle_act (Refusing q []) _ Quiet at (λ x k. refl) (λ k. refl) None (λ xs. refl) (λ xs. refl))
+  settled (Refusing q []) at = goes (Refusing q []) (Rest q) None at refl (idle_act (Refusing q []) _ Quiet at (λ x k. refl) (λ k. refl) None (λ xs. refl) (λ xs. refl) (λ xs. refl))
   settled (Refusing q (y ∷ todo)) at = stays (Refusing q (y ∷ todo)) at refl
 
 -- a worker at rest begins its request
@@ -217,11 +234,12 @@ pub begun : (s : Setting) (core : Core) (w : ℕ) (recs : List Rec) (n q : ℕ) 
 begun s core w recs n q at =
     let rests : resting (acts.phase_of core w) ≡ true = ap resting at.phase in
     let same : acts.begin s core w ≡ micro s (micro s core w) w = ap (λ b. if b then micro s (micro s core w) w else core) rests in
-    let a = idle_act s core w recs n (Rest q) (Asking q []) Quiet at (λ x k. refl) (λ k. refl) None (λ xs. refl) (λ xs. refl) in
-    let b = idle_act s (micro s core w) w recs n (Asking q []) (asked q [] (s.ask w q [])) Quiet a.at (λ x k. refl) (λ k. refl) None (λ xs. refl) (λ xs. refl) in
+    let a = idle_act s core w recs n (Rest q) (Asking q []) Quiet at (λ x k. refl) (λ k. refl) None (λ xs. refl) (λ xs. refl) (λ xs. refl) in
+    let b = idle_act s (micro s core w) w recs n (Asking q []) (asked q [] (s.ask w q [])) Quiet a.at (λ x k. refl) (λ k. refl) None (λ xs. refl) (λ xs. refl) (λ xs. refl) in
     subst (λ (z : Core). Settled core z w (asked q [] (s.ask w q [])) None recs n) (sym same) (record {
       at = b.at;
       workers = b.workers ∙ ap (λ ws. set ws w (asked q [] (s.ask w q []))) a.workers ∙ set-set core.workers w (Asking q []) (asked q [] (s.ask w q []));
       decided = b.decided ∙ a.decided;
       refusals = b.refusals ∙ a.refusals;
+      made = b.made ∙ a.made;
     })

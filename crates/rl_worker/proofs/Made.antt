@@ -3,22 +3,11 @@ use Rattle.std.proofs.Common.{◌≡◌, ◌≢◌, ◌⊎◌, ℕ, zero, suc, �
 use Rattle.std.proofs.lemmas.Bool.Decides.{eqb_tells, nat_tests}
 use Rattle.rl_worker.proofs.States.{Answer, Read, Install, Rec, Outcome, Wants, Ends, Phase, Rest, Asking, Wanting, Loading, Locking, Validating, Storing, Refusing, Setting, asked, other, upd}
 use Rattle.rl_worker.specs.Items.{Item, place, Rising, indexes, upto, InLists}
-use Rattle.rl_worker.specs.Acts.{quiet, lost, Changed, Event, Quiet, Drew, Won, Lost, LostDrawn, Moved, target, first_load_of, confirm_of, lock_of, moved, Core, no_rec, next_after, made_after, stamps_by, AllUnder, IsFalling, decided_after, after, phase_of, micro_at, opening, idle, resting, micro, passing, settle, begin, step, step_on, is_done, may, Turn, Step, Idle, turn, run, AllRest}
+use Rattle.rl_worker.specs.Acts.{quiet, lost, Changed, Event, Quiet, Drew, Won, Lost, LostDrawn, Moved, target, first_load_of, confirm_of, lock_of, moved, Core, no_rec, next_after, made_after, stamps_by, AllUnder, IsFalling, DrawnAbove, IsBelowNext, decided_after, after, phase_of, micro_at, opening, idle, resting, micro, passing, settle, begin, step, step_on, is_done, may, Turn, Step, Idle, turn, run, AllRest}
 use Rattle.rl_worker.proofs.Whole.{there}
 use Rattle.rl_worker.proofs.Basics.{by_upd, upd_same, upd_other}
 use Rattle.rl_worker.proofs.Acts.{by_test, test_lt, test_ge}
 use Rattle.rl_worker.proofs.Lift.{set_reads}
-
--- a drawn stamp is above what this worker has made
-abbrev pub DrawnAbove : Phase → List ℕ → ℕ → Type 0
-DrawnAbove (Rest q) xs n = ℕ
-DrawnAbove (Asking q reads) xs n = ℕ
-DrawnAbove (Wanting q reads r) xs n = ℕ
-DrawnAbove (Loading q reads r seen loaded) xs n = ℕ
-DrawnAbove (Locking q reads answer locked todo) xs n = ℕ
-DrawnAbove (Validating q t done todo answer writes) xs n = (t < n) × AllUnder t xs
-DrawnAbove (Storing q t j todo) xs n = ℕ
-DrawnAbove (Refusing q todo) xs n = ℕ
 
 under_up : (t u : ℕ) (xs : List ℕ) → t ≤ u → AllUnder t xs → AllUnder u xs
 under_up t u [] l h = 0
@@ -193,10 +182,16 @@ module _ (S : Setting) where
   run_ok [] c g = g
   run_ok (t ∷ ts) c g = run_ok ts (turn S c t) (turn_ok c t g)
 
-  -- the stamps of each worker rise from the opening on
-  pub stamps_rise : (recs : List Rec) (workers : List Phase) (turns : List Turn) → AllRest workers → (w : ℕ) → IsFalling (stamps_by w (run S (opening S recs workers) turns).made)
-  stamps_rise recs workers turns h w = (run_ok turns (opening S recs workers) (record {
+  made_ok : (recs : List Rec) (workers : List Phase) (turns : List Turn) → AllRest workers → MadeOk (run S (opening S recs workers) turns)
+  made_ok recs workers turns h = run_ok turns (opening S recs workers) (record {
     falling = λ v. 0;
     below = λ v. 0;
     drawn = λ v. above_rest (get_or workers v (Rest 0)) [] S.base (rest_of workers v h);
-  })).falling w
+  })
+
+  -- the stamps of each worker rise from the opening on
+  pub stamps_rise : (recs : List Rec) (workers : List Phase) (turns : List Turn) → AllRest workers → (w : ℕ) → IsFalling (stamps_by w (run S (opening S recs workers) turns).made)
+  stamps_rise recs workers turns h w = (made_ok recs workers turns h).falling w
+
+  pub stamps_below : (recs : List Rec) (workers : List Phase) (turns : List Turn) → AllRest workers → (w : ℕ) → IsBelowNext w (run S (opening S recs workers) turns)
+  stamps_below recs workers turns h w = ((made_ok recs workers turns h).below w, (made_ok recs workers turns h).drawn w)

@@ -23,7 +23,7 @@ use Rattle.rl_worker.specs.Phases.{Read, Phase, Rest, Asking, Wanting, Loading, 
 use Rattle.rl_worker.specs.Acts as acts
 use Rattle.rl_worker.specs.Acts.{Core, resting, target, micro, settle, step, step_on, begin, is_done}
 use Rattle.rl_worker.specs.Opening.{outcome, request, setting_of}
-use Rattle.rl_worker.specs.Workers.{part_phase, reading_phase, stage_phase, phase_of, StageFits, IsAttemptOf, is_resting, decided_at, decided_item, found, act_of, act_made, IsAct, IsActed, Loaded, Confirmed, Committed, Stands, Steps, stamp_next, either, newly_decided, core_item, joined}
+use Rattle.rl_worker.specs.Workers.{part_phase, reading_phase, stage_phase, phase_of, StageFits, IsAttemptOf, is_resting, decided_at, decided_item, found, act_of, act_made, IsAct, IsActed, Loaded, Confirmed, Committed, Stands, Steps, stamp_next, either, newly_decided, core_item, joined, IsOf, stamp_by}
 use Rattle.rl_worker.proofs.Cores.{At, Settled, begun}
 use Rattle.rl_worker.proofs.Stages.{no_setting}
 use Rattle.rl_worker.proofs.Turns.{stepped}
@@ -157,13 +157,17 @@ module _ (tables : List Table) (s : Setting) (old : Worker) (words : Words) (cor
             refusals = t.refusals ∙ ap (λ fs. option_to_list t.refusal ++ fs) after.refusals;
             refused = t.refused;
             of = of t.refusal t.of;
-            stamped = subst (λ o. IfSome (if is_some o then None else either told.ended (decided_item new)) (λ x. x.stamp.epoch ≡ old.epoch)) (none ∙ sym was)
+            stamped = subst (λ o. IfSome (if is_some o then None else either told.ended (decided_item new)) (IsOf old)) (none ∙ sym was)
                 (to_old (newly_decided w new told) t.stamped);
+            made = t.made ∙ ap (λ z. option_to_list (option_map stamp_by (newly_decided w new told)) ++ z) after.made
+                ∙ ap (λ o. option_to_list (option_map stamp_by (if is_some o then None else either told.ended (decided_item new))) ++ core.made) (none ∙ sym was);
+            ended = t.ended;
+            index = t.index ∙ ap (λ n. n + (if is_some told.ended then 1 else 0)) attempt.index;
           })
         where
-          to_old : (o : Option items.Item) → IfSome o (λ x. x.stamp.epoch ≡ w.epoch) → IfSome o (λ x. x.stamp.epoch ≡ old.epoch)
+          to_old : (o : Option items.Item) → IfSome o (IsOf w) → IfSome o (IsOf old)
           to_old None h = tt
-          to_old (Some x) h = h ∙ attempt.epoch
+          to_old (Some x) h = (h.0 ∙ attempt.epoch, h.1 ∙ attempt.number, h.2 ∙ attempt.index)
 
           go : (o : Option items.Item) → o ≡ None → IfSome o (λ x. either told.ended (decided_item new) ≡ Some x)
           go None e = tt
@@ -202,9 +206,21 @@ module _ (tables : List Table) (s : Setting) (old : Worker) (words : Words) (cor
         refused = ap (λ (z : code.Moved). z.refused) is;
         of = tt;
         stamped = nothing (either told.ended (decided_item old)) (is_some (decided_item old)) (ap (λ o. either told.ended o) none ∙ ended_only told.ended ended);
+        made = sym (ap (λ o. option_to_list (option_map stamp_by (if is_some o then None else either told.ended o)) ++ core.made) none
+            ∙ ap (λ o. option_to_list (option_map stamp_by o) ++ core.made) (ended_only told.ended ended));
+        ended = ends told.ended ended;
+        index = counts told.ended ended;
       })
     where
-      nothing : (o : Option items.Item) (b : Bool) → o ≡ None → IfSome (if b then None else o) (λ x. x.stamp.epoch ≡ old.epoch)
+      ends : (o : Option items.Item) → o ≡ None → IfSome o (λ x. decided_item old ≡ None)
+      ends None e = tt
+      ends (Some x) e = absurd (cc)
+
+      counts : (o : Option items.Item) → o ≡ None → old.index ≡ old.index + (if is_some o then 1 else 0)
+      counts None e = omega arith
+      counts (Some x) e = absurd (cc)
+
+      nothing : (o : Option items.Item) (b : Bool) → o ≡ None → IfSome (if b then None else o) (IsOf old)
       nothing o true e = tt
       nothing None false e = tt
       nothing (Some x) false e = absurd (cc)

@@ -24,8 +24,8 @@ use Rattle.rl_worker.specs.Items.{Item}
 use Rattle.rl_worker.specs.Acts as acts
 use Rattle.rl_worker.specs.Acts.{Core, passing, resting, micro, settle}
 use Rattle.rl_worker.specs.Opening.{install_of, outcome, request, setting_of}
-use Rattle.rl_worker.specs.Workers.{installs, part_phase, commit_phase, reading_phase, stage_phase, phase_of, PartFits, HasMore, CommitFits, StageFits, IsAttemptOf, IsOfAttempt, IsAct, is_storing, is_over, decided_in, decided, decided_at, decided_item, ended, finished, is_reading, is_resting, confirmed_phase, ran_on, Confirms, Commits, IsActed, Loaded, Confirmed, Committed, Stands, Steps, stamp_next, either, newly_decided, core_item, joined, refused}
-use Rattle.rl_worker.proofs.Cores.{passed, wins, index_in, At, acted, settled}
+use Rattle.rl_worker.specs.Workers.{installs, part_phase, commit_phase, reading_phase, stage_phase, phase_of, PartFits, HasMore, CommitFits, StageFits, IsAttemptOf, IsOfAttempt, IsAct, is_storing, is_over, decided_in, decided, decided_at, decided_item, ended, finished, is_reading, is_resting, confirmed_phase, ran_on, Confirms, Commits, IsActed, Loaded, Confirmed, Committed, Stands, Steps, stamp_next, either, newly_decided, core_item, joined, refused, IsOf, stamp_by}
+use Rattle.rl_worker.proofs.Cores.{passed, wins, index_in, At, acted, settled, stamps_added}
 
 -- nothing is passed in a phase in which a worker may stand
 pub not_passed : (s : Setting) (w : ℕ) (p : Phase) → passing p ≡ false → (passed s w p ≡ p) × (wins w p ≡ None)
@@ -93,6 +93,14 @@ index_stage tables txn w stage.Resting f = refl
 index_stage tables txn w (stage.Reading r) f = index_reading w.index r
 index_stage tables txn w (stage.Committing c) f = index_part tables c c.part ∙ f.2
 
+stamp_of_item : (tables : List Table) (o : Option txn.Item) → stamps_added (option_map (core_item tables) o) ≡ option_to_list (option_map stamp_by o)
+stamp_of_item tables None = refl
+stamp_of_item tables (Some x) = refl
+
+same_index : (old new : Worker) (o : Option txn.Item) → new.index ≡ old.index → o ≡ None → new.index ≡ old.index + (if is_some o then 1 else 0)
+same_index old new None e n = e ∙ omega arith
+same_index old new (Some x) e n = absurd (cc)
+
 -- what an act and what follows it come to, by the phase that the act leads to
 pub record Turned (tables : List Table) (s : Setting) (old new : Worker) (words words' : Words) (told : code.Moved) : Type 0 where
   pub to : Phase
@@ -103,7 +111,9 @@ pub record Turned (tables : List Table) (s : Setting) (old new : Worker) (words 
   pub first : wins old.number to ≡ option_map (core_item tables) (newly_decided old new told)
   pub second : wins old.number (passed s old.number to) ≡ None
   pub kept : IfSome (decided_item old) (λ x. either told.ended (decided_item new) ≡ Some x)
-  pub stamped : IfSome (newly_decided old new told) (λ x. x.stamp.epoch ≡ old.epoch)
+  pub stamped : IfSome (newly_decided old new told) (IsOf old)
+  pub ended : IfSome told.ended (λ x. decided_item new ≡ None)
+  pub index : new.index ≡ old.index + (if is_some told.ended then 1 else 0)
 
 -- then it is a step of the core
 pub turned : (tables : List Table) (txn : List Op) (s : Setting) (old new : Worker) (words words' : Words) (told : code.Moved) (core : Core)
@@ -136,6 +146,9 @@ turned tables txn s old new words words' told core fits st t =
       refused = a.told;
       of = go a.refusal a.of;
       stamped = t.stamped;
+      made = c.made ∙ ap (λ o. stamps_added o ++ (settle s (micro s core w) w).made) t.second ∙ b.made ∙ ap (λ o. stamps_added o ++ (micro s core w).made) t.first ∙ ap (λ z. stamps_added (option_map (core_item tables) (newly_decided old new told)) ++ z) a.made ∙ ap (λ z. z ++ core.made) (stamp_of_item tables (newly_decided old new told));
+      ended = t.ended;
+      index = t.index;
     }
   where
     go : (o : Option acts.Refusal) → IfSome o (λ f. (f.worker ≡ old.number) × (f.index ≡ index_in (phase_of tables old))) → IfSome o (λ f. (f.worker ≡ old.number) × (f.index ≡ old.index))
@@ -185,6 +198,8 @@ turned_loaded tables txn s old new words told reads attempt fits none act =
       second = ap (wins old.number) stay.0 ∙ stay.1;
       kept = kept_none _ (decided_item old) (reads_none old.stage reads);
       stamped = kept_none _ (newly_decided old new told) (newly_none old new told none a.ended);
+      ended = kept_none _ told.ended a.ended;
+      index = same_index old new told.ended attempt.index a.ended;
     }
 
 still_asked : (q : ℕ) (reads : List Read) (o : Outcome) → passing (asked q reads o) ≡ false
@@ -210,6 +225,8 @@ turned_confirmed tables txn s old new words told asks reads attempt none c = go 
           second = stay.1;
           kept = kept_none _ (decided_item old) (reads_none old.stage reads);
           stamped = kept_none _ (newly_decided old new told) (newly_none old new told none a.ended);
+          ended = kept_none _ told.ended a.ended;
+          index = same_index old new told.ended attempt.index a.ended;
         }
     go (Err f) act ran =
         let a = act s old.number old.epoch in
@@ -223,6 +240,8 @@ turned_confirmed tables txn s old new words told asks reads attempt none c = go 
           second = refl;
           kept = kept_none _ (decided_item old) (reads_none old.stage reads);
           stamped = kept_none _ (newly_decided old new told) (newly_none old new told none a.ended);
+          ended = kept_none _ told.ended a.ended;
+          index = same_index old new told.ended attempt.index a.ended;
         }
 
 -- the item of a commit that is over
@@ -343,51 +362,70 @@ turned_committed tables s old new words words' told c w_is i_is e_is =
           ∙ ap (λ o. if is_some (decided_item old) then None else either told.ended o) (sym now));
       second = m.second;
       kept = keeps (is_storing c.was.part) refl (decided_item old) was (λ h. ap (λ o. either o (decided_item new)) c.ended ∙ ap (either (over_item (decided t))) now ∙ m.kept (c.attempt.part ∙ h) ∙ ap Some (c.attempt.decided h));
-      stamped = subst (λ o. IfSome o (λ x. x.stamp.epoch ≡ old.epoch)) (sym newly) (
-          epochs (is_some (decided_item old)) (over_item (decided t)) (decided_item (finished old (decided t))) (over_epoch (decided t) (e_of t t.part)) (last_epoch (decided t) (e_of t t.part)));
+      stamped = subst (λ o. IfSome o (IsOf old)) (sym newly) (
+          either_of (is_some (decided_item old)) (over_item (decided t)) (decided_item (finished old (decided t))) (over_of (decided t) (item_of t t.part)) (last_of (decided t) (item_of t t.part)));
+      ended = subst (λ o. IfSome o (λ x. decided_item new ≡ None)) (sym c.ended) (subst (λ (z : Worker). IfSome (over_item (decided t)) (λ x. decided_item z ≡ None)) (sym c.new_is) (over_none (decided t) (is_over (decided t) (decided t).part) refl));
+      index = ap (λ (z : Worker). z.index) c.new_is ∙ over_index (decided t) (is_over (decided t) (decided t).part) refl ∙ ap (λ o. old.index + (if is_some o then 1 else 0)) (sym c.ended);
     }
   where
     newly : newly_decided old new told ≡ (if is_some (decided_item old) then None else either (over_item (decided c.to)) (decided_item (finished old (decided c.to))))
     newly = ap (λ o. if is_some (decided_item old) then None else either o (decided_item new)) c.ended ∙ ap (λ o. if is_some (decided_item old) then None else either (over_item (decided c.to)) o) (ap decided_item c.new_is)
 
-    to_epoch : c.to.item.stamp.epoch ≡ old.epoch
-    to_epoch = c.attempt.epoch ∙ e_is
+    to_is : IsOf old c.to.item
+    to_is = (c.attempt.epoch ∙ e_is, c.attempt.worker ∙ w_is, c.attempt.index ∙ i_is)
 
-    e_of : (t : Commit) (p : Part) → (decided_in t p).item.stamp.epoch ≡ t.item.stamp.epoch
-    e_of t (part.Locking held) = refl
-    e_of t (part.Validating done) = go (done == length t.reads.0)
+    item_of : (t : Commit) (p : Part) → (decided_in t p).item ≡ t.item
+    item_of t (part.Locking held) = refl
+    item_of t (part.Validating done) = go (done == length t.reads.0)
       where
-        go : (b : Bool) → (if b then record t { part = part.Storing 0 0 } else t).item.stamp.epoch ≡ t.item.stamp.epoch
+        go : (b : Bool) → (if b then record t { part = part.Storing 0 0 } else t).item ≡ t.item
         go true = refl
         go false = refl
-    e_of t (part.Storing place stored) = refl
-    e_of t (part.Refusing place held) = refl
+    item_of t (part.Storing place stored) = refl
+    item_of t (part.Refusing place held) = refl
 
-    at_epoch : (d : Commit) → d.item.stamp.epoch ≡ c.to.item.stamp.epoch → IfSome (decided_at (stage.Committing d)) (λ x. x.stamp.epoch ≡ old.epoch)
-    at_epoch d e = go (is_storing d.part)
+    at_of : (d : Commit) → d.item ≡ c.to.item → IfSome (decided_at (stage.Committing d)) (IsOf old)
+    at_of d e = go (is_storing d.part)
       where
-        go : (b : Bool) → IfSome (if b then Some d.item else None) (λ x. x.stamp.epoch ≡ old.epoch)
-        go true = e ∙ to_epoch
+        go : (b : Bool) → IfSome (if b then Some d.item else None) (IsOf old)
+        go true = subst (IsOf old) (sym e) to_is
         go false = tt
 
-    over_epoch : (d : Commit) → d.item.stamp.epoch ≡ c.to.item.stamp.epoch → IfSome (over_item d) (λ x. x.stamp.epoch ≡ old.epoch)
-    over_epoch d e = go (is_over d d.part)
+    over_of : (d : Commit) → d.item ≡ c.to.item → IfSome (over_item d) (IsOf old)
+    over_of d e = go (is_over d d.part)
       where
-        go : (b : Bool) → IfSome (if b then decided_at (stage.Committing d) else None) (λ x. x.stamp.epoch ≡ old.epoch)
-        go true = at_epoch d e
+        go : (b : Bool) → IfSome (if b then decided_at (stage.Committing d) else None) (IsOf old)
+        go true = at_of d e
         go false = tt
 
-    last_epoch : (d : Commit) → d.item.stamp.epoch ≡ c.to.item.stamp.epoch → IfSome (decided_item (finished old d)) (λ x. x.stamp.epoch ≡ old.epoch)
-    last_epoch d e = go (is_over d d.part)
+    last_of : (d : Commit) → d.item ≡ c.to.item → IfSome (decided_item (finished old d)) (IsOf old)
+    last_of d e = go (is_over d d.part)
       where
-        go : (b : Bool) → IfSome (decided_item (if b then ended old d else record old { stage = stage.Committing d })) (λ x. x.stamp.epoch ≡ old.epoch)
+        go : (b : Bool) → IfSome (decided_item (if b then ended old d else record old { stage = stage.Committing d })) (IsOf old)
         go true = tt
-        go false = at_epoch d e
+        go false = at_of d e
 
-    epochs : (b : Bool) (o p : Option txn.Item) → IfSome o (λ x. x.stamp.epoch ≡ old.epoch) → IfSome p (λ x. x.stamp.epoch ≡ old.epoch) → IfSome (if b then None else either o p) (λ x. x.stamp.epoch ≡ old.epoch)
-    epochs true o p h k = tt
-    epochs false None p h k = k
-    epochs false (Some x) p h k = h
+    either_of : (b : Bool) (o p : Option txn.Item) → IfSome o (IsOf old) → IfSome p (IsOf old) → IfSome (if b then None else either o p) (IsOf old)
+    either_of true o p h k = tt
+    either_of false None p h k = k
+    either_of false (Some x) p h k = h
+
+    -- where an item is ended nothing is decided any more
+    over_none : (d : Commit) (b : Bool) → is_over d d.part ≡ b → IfSome (if is_over d d.part then decided_at (stage.Committing d) else None) (λ x. decided_item (if is_over d d.part then ended old d else record old { stage = stage.Committing d }) ≡ None)
+    over_none d true e = rw e (go (decided_at (stage.Committing d)))
+      where
+        go : (o : Option txn.Item) → IfSome o (λ x. decided_item (ended old d) ≡ None)
+        go None = tt
+        go (Some x) = refl
+    over_none d false e = rw e tt
+
+    over_index : (d : Commit) (b : Bool) → is_over d d.part ≡ b → (finished old d).index ≡ old.index + (if is_some (if is_over d d.part then decided_at (stage.Committing d) else None) then 1 else 0)
+    over_index d true e = rw e (go (is_storing d.part))
+      where
+        go : (b : Bool) → (if b then old.index + 1 else old.index) ≡ old.index + (if is_some (if b then Some d.item else None) then 1 else 0)
+        go true = refl
+        go false = omega arith
+    over_index d false e = rw e (omega arith)
 
     number : (d : Commit) → (finished old d).number ≡ old.number
     number d = go (is_over d d.part)

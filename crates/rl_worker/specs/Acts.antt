@@ -284,3 +284,18 @@ AllUnder t (x ∷ xs) = (x < t) × AllUnder t xs
 abbrev pub IsFalling : List ℕ → Type 0
 IsFalling [] = ℕ
 IsFalling (x ∷ xs) = AllUnder x xs × IsFalling xs
+
+-- a stamp that is drawn and not yet decided is above all that its worker made before
+abbrev pub DrawnAbove : Phase → List ℕ → ℕ → Type 0
+DrawnAbove (Rest q) xs n = ℕ
+DrawnAbove (Asking q reads) xs n = ℕ
+DrawnAbove (Wanting q reads r) xs n = ℕ
+DrawnAbove (Loading q reads r seen loaded) xs n = ℕ
+DrawnAbove (Locking q reads answer locked todo) xs n = ℕ
+DrawnAbove (Validating q t done todo answer writes) xs n = (t < n) × AllUnder t xs
+DrawnAbove (Storing q t j todo) xs n = ℕ
+DrawnAbove (Refusing q todo) xs n = ℕ
+
+-- all that a worker made is below the next stamp, and below the one that it has drawn
+abbrev pub IsBelowNext : ℕ → Core → Type 0
+IsBelowNext w c = AllUnder c.next (stamps_by w c.made) × DrawnAbove (phase_of c w) (stamps_by w c.made) c.next

@@ -349,6 +349,14 @@ abbrev pub joined : Option Item → List Item → List Item
 joined None xs = xs
 joined (Some x) xs = place x xs
 
+-- an item of the worker's epoch and request
+abbrev pub IsOf : Worker → txn.Item → Type 0
+IsOf w x = (x.stamp.epoch ≡ w.epoch) × (x.worker ≡ w.number) × (x.index ≡ w.index)
+
+-- a worker made an item under a stamp
+abbrev pub stamp_by : txn.Item → ℕ × ℕ
+stamp_by x = (x.worker, packed x.stamp)
+
 -- a step of the code is a step of the core: what stands after it, and what it tells
 pub record Steps (tables : List Table) (old new : Worker) (words : Words) (told : code.Moved) (core core' : Core) : Type 0 where
   pub stands : Stands tables new words core'
@@ -361,7 +369,10 @@ pub record Steps (tables : List Table) (old new : Worker) (words : Words) (told 
   pub refusals : core'.refusals ≡ option_to_list refusal ++ core.refusals
   pub refused : told.refused ≡ option_map refused refusal
   pub of : IfSome refusal (λ f. (f.worker ≡ number_of old) × (f.index ≡ next_of old))
-  pub stamped : IfSome (newly_decided old new told) (λ x. x.stamp.epoch ≡ epoch_of old)
+  pub stamped : IfSome (newly_decided old new told) (IsOf old)
+  pub made : core'.made ≡ option_to_list (option_map stamp_by (newly_decided old new told)) ++ core.made
+  pub ended : IfSome told.ended (λ x. decided_item new ≡ None)
+  pub index : next_of new ≡ next_of old + (if is_some told.ended then 1 else 0)
 
 -- the act that a step of a worker makes: none at rest with no request left
 abbrev pub act_made : Setting → ℕ → Core → ℕ → Act

@@ -59,6 +59,8 @@ impl Worker {
         ensures number { number_of result ≡ worker }
         ensures epoch { epoch_of result ≡ epoch }
         ensures rests { (tables : List Table) → phase_of tables result ≡ Rest next }
+        ensures next { next_of result ≡ next }
+        ensures undecided { decided_item result ≡ None }
         ensures fits { (tables : List Table) (lists : List (List (List Op))) → 1 ≤ worker → worker ≤ length lists → epoch < 2 ^ 20 → WorkerFits tables lists result }
     {
         Worker {

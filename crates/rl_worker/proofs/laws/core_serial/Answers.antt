@@ -8,7 +8,7 @@ use Rattle.rl_worker.proofs.Whole.{law}
 use Rattle.rl_worker.proofs.Settings.{lawful, opens, rests_at, all_at_rest}
 use Rattle.rl_worker.proofs.Settled.{settled_for_good}
 use Rattle.rl_worker.proofs.Histories.{serial, indexes_same, upto_range}
-use Rattle.rl_worker.proofs.Made.{stamps_rise}
+use Rattle.rl_worker.proofs.Made.{stamps_rise, stamps_below}
 use Rattle.rl_worker.proofs.laws.core_serial.Goals as goal
 
 pub returns-clause-serial : goal.returns-clause-serial
@@ -32,6 +32,9 @@ returns-clause-causes c = λ tables lists rows stamps epoch firsts turns fits.
 
 pub returns-clause-rising : goal.returns-clause-rising
 returns-clause-rising c = λ tables lists rows stamps epoch firsts turns w. stamps_rise (setting_of tables lists rows stamps epoch) (opening_recs tables rows stamps) (at_rest firsts) turns (all_at_rest firsts) w
+
+pub returns-clause-below : goal.returns-clause-below
+returns-clause-below c = λ tables lists rows stamps epoch firsts turns w. stamps_below (setting_of tables lists rows stamps epoch) (opening_recs tables rows stamps) (at_rest firsts) turns (all_at_rest firsts) w
 
 pub returns-clause-settled : goal.returns-clause-settled
 returns-clause-settled c = λ tables lists rows stamps epoch core t turns settled. settled_for_good (setting_of tables lists rows stamps epoch) t turns core settled

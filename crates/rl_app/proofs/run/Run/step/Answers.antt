@@ -41,7 +41,7 @@ join-requires-clause-epoch c =
     let item : c.in_ok-item.item ≡ newly_decided x c.step.new.self c.in_ok-moved.moved = c.in_ok-item.ensures
     ∙ first_is tables c.is_some-was_decided.result c.in_ok-moved.moved.ended (option_copied c.decided-2.result) c.decided.result x c.step.new.self c.in_ok-moved.moved
     c.is_some-was_decided.ensures (c.decided.ensures ∙ ap decided_item two) (c.decided-2.ensures ∙ ap decided_item three) refl in
-    subst (λ o. IfSome o (λ y. y.stamp.epoch ≡ 1)) (sym item) (to_one (newly_decided x c.step.new.self c.in_ok-moved.moved) (epoch_of x) one t.stamped)
+    subst (λ o. IfSome o (λ y. y.stamp.epoch ≡ 1)) (sym item) (to_one (newly_decided x c.step.new.self c.in_ok-moved.moved) x one t.stamped)
 
 pub returns : goal.returns
 returns c = λ rows stamps core is.
