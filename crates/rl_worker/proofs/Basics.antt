@@ -1,7 +1,7 @@
 -- Updates of functions, and lists of writes.
-use Rattle.std.proofs.Common.{◌≡◌, ◌≢◌, ◌⊎◌, ℕ, zero, suc, ◌+◌, ◌<◌, ◌≤◌, List, [], ◌∷◌, ◌++◌, length, get_or, take, set, Bool, true, false, not, ◌==◌, if◌then◌else◌, Option, Some, None, refl, sym, ap, ◌∙◌, subst, arith, inl, inr, eqb-true, eq-eqb, ne_eqb, true≢false, append_assoc}
-use Rattle.std.proofs.lemmas.Bool.Decides.{eqb_tells, nat_tests}
-use Rattle.rl_worker.proofs.States.{Answer, Read, Install, upd, has, row_at}
+use Rattle.std.proofs.Common.{◌≡◌, ◌≢◌, ◌⊎◌, ℕ, List, [], ◌∷◌, ◌++◌, true, false, Some, None, refl, sym, arith, inl, inr, eq-eqb, ne_eqb, true≢false}
+use Rattle.std.proofs.lemmas.Bool.Decides.{eqb_tells}
+use Rattle.rl_worker.proofs.States.{Install, upd, has, row_at}
 
 pub upd_same : {A : Type 0} (f : ℕ → A) (i : ℕ) (x : A) → upd f i x i ≡ x
 upd_same f i x = rw (eq-eqb i i refl)

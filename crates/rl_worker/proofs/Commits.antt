@@ -1,5 +1,5 @@
 -- The acts of a commit are those of its phase.
-use Rattle.std.proofs.Common.{◌≡◌, ℕ, zero, suc, ◌+◌, ◌*◌, ◌^◌, ◌<◌, ◌≤◌, List, [], ◌∷◌, ◌++◌, length, map, get_or, take, drop, set, replicate, Bool, true, false, nat_lt, if◌then◌else◌, ◌==◌, Option, Some, None, refl, sym, ap, ◌∙◌, subst, arith, add-one}
+use Rattle.std.proofs.Common.{◌≡◌, ℕ, suc, ◌+◌, ◌*◌, ◌^◌, ◌<◌, ◌≤◌, List, [], ◌∷◌, ◌++◌, length, map, get_or, take, drop, set, replicate, true, false, nat_lt, Option, Some, None, refl, sym, ap, ◌∙◌, subst, arith, add-one}
 use Rattle.std.proofs.lemmas.List.{take_more, drop_more, get_or-map, length-map, get_or_default, get_or-take, length-take-le, length-replicate, set-get_or}
 use Rattle.std.proofs.lemmas.Bool.Decides.{nat_tests}
 use Rattle.rl_base.specs.declared.refusal.Refusal.{Refusal}
@@ -8,18 +8,15 @@ use Rattle.rl_value.specs.Tables.{Table, columns_of}
 use Rattle.rl_tables.specs.Numbers.{sizes_of, place_of}
 use Rattle.rl_tables.proofs.Sizes.{size_at}
 use Rattle.rl_txn.specs.declared.write.Write.{Write}
-use Rattle.rl_worker.specs.declared.act.Act.{Act}
 use Rattle.rl_worker.specs.declared.act.Act.TheVariants as act
 use Rattle.rl_worker.specs.declared.act.Moved as code
 use Rattle.rl_worker.specs.declared.words.Words.{Words}
 use Rattle.rl_worker.specs.declared.commit.Commit.{Commit}
-use Rattle.rl_worker.specs.declared.commit.Part.{Part}
 use Rattle.rl_worker.specs.declared.commit.Part.TheVariants as part
-use Rattle.rl_worker.specs.Phases.{Answer, Read, Install, Rec, Phase, Rest, Asking, Wanting, Loading, Locking, Validating, Storing, Refusing, Setting}
-use Rattle.rl_worker.specs.Acts as acts
-use Rattle.rl_worker.specs.Acts.{Event, no_rec, target, lock_of, moved, next_after}
+use Rattle.rl_worker.specs.Phases.{Answer, Install, Rec, Phase, Locking, Storing, Refusing, Setting}
+use Rattle.rl_worker.specs.Acts.{no_rec, target, lock_of, moved, next_after}
 use Rattle.rl_worker.specs.Opening.{install_of, cells_of}
-use Rattle.rl_worker.specs.Workers.{found, word, refusal_of, act_of, installs, part_phase, commit_phase, stamp_next, RecordsFit, WriteFits, RowHas, IsAct}
+use Rattle.rl_worker.specs.Workers.{found, word, refusal_of, act_of, part_phase, commit_phase, stamp_next, RecordsFit, WriteFits, RowHas, IsAct}
 use Rattle.rl_worker.proofs.Places.{place_of_record}
 use Rattle.rl_worker.proofs.Settings.{sizes_length}
 

@@ -1,16 +1,12 @@
 -- A step of the code is a step of the core.
-use Rattle.std.proofs.Common.{◌≡◌, ℕ, zero, suc, ◌+◌, ◌*◌, ◌^◌, ◌<◌, ◌≤◌, List, [], ◌∷◌, ◌++◌, length, map, get_or, take, drop, set, Bool, true, false, not, nat_lt, is_some, if◌then◌else◌, ◌==◌, Option, Some, None, Result, Ok, Err, IfSome, IsSomeAnd, option_to_list, refl, sym, ap, ◌∙◌, subst, arith}
+use Rattle.std.proofs.Common.{◌≡◌, ℕ, suc, ◌<◌, List, [], ◌∷◌, ◌++◌, length, get_or, set, Bool, true, false, nat_lt, if◌then◌else◌, ◌==◌, Option, Some, None, IfSome, option_to_list, refl, sym, ap, ◌∙◌, subst}
 use mathlib.Core.Bool.{false≢true}
-use Rattle.std.specs.Option.{option_map, option_map_or}
+use Rattle.std.specs.Option.{option_map}
 use Rattle.std.proofs.lemmas.List.{get_or-set_same, length-set, set-set, set-get_or}
-use Rattle.rl_base.specs.declared.refusal.Refusal.{Refusal}
-use Rattle.rl_base.specs.Stamps.{packed}
-use Rattle.rl_value.specs.Tables.{Table}
-use Rattle.rl_txn.specs.declared.op.Op.{Op}
 use Rattle.rl_worker.specs.declared.act.Moved as code
 use Rattle.rl_worker.specs.declared.words.Words.{Words}
-use Rattle.rl_worker.specs.Phases.{Answer, Read, Install, Rec, Outcome, Phase, Rest, Asking, Wanting, Loading, Locking, Validating, Storing, Refusing, Setting, other, asked, with_read}
-use Rattle.rl_worker.specs.Items.{Item, place}
+use Rattle.rl_worker.specs.Phases.{Answer, Read, Install, Rec, Phase, Rest, Asking, Wanting, Loading, Locking, Validating, Storing, Refusing, Setting, other, asked, with_read}
+use Rattle.rl_worker.specs.Items.{Item}
 use Rattle.rl_worker.specs.Acts as acts
 use Rattle.rl_worker.specs.Acts.{Cause, Locked, Changed, Event, Quiet, Drew, Won, Lost, LostDrawn, Core, no_rec, target, quiet, lost, lost_drawn, moved, first_load_of, confirm_of, lock_of, next_after, decided_after, refusals_after, made_after, won, passing, resting, micro, settle}
 use Rattle.rl_worker.specs.Workers.{found, refused, refusal_of, made, stamp_next, IsAct, joined}

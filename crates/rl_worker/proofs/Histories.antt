@@ -1,10 +1,9 @@
 -- What the core decides is serial on the real rows.
-use Rattle.std.proofs.Common.{◌≡◌, ◌≢◌, ◌⊎◌, ℕ, zero, suc, ◌+◌, ◌-◌, ◌*◌, ◌^◌, ◌<◌, ◌≤◌, List, [], ◌∷◌, ◌++◌, length, map, filter, sum, get_or, slice_get, slice_index, nat_lt, ◌==◌, not, Bool, true, false, ◌&&◌, ◌||◌, cond, if◌then◌else◌, Option, Some, None, IfSome, IsSomeAnd, refl, sym, ap, ◌∙◌, subst, arith, inl, inr, true≢false, All, is_some}
+use Rattle.std.proofs.Common.{◌≡◌, ◌≢◌, ℕ, zero, suc, ◌+◌, ◌*◌, ◌^◌, ◌<◌, ◌≤◌, List, [], ◌∷◌, ◌++◌, length, map, filter, sum, get_or, slice_index, ◌==◌, Bool, true, false, ◌&&◌, ◌||◌, cond, if◌then◌else◌, Option, Some, None, IfSome, IsSomeAnd, refl, sym, ap, ◌∙◌, subst, arith, inl, inr, true≢false}
 use Rattle.std.proofs.lemmas.Bool.{cases_lt}
 use Rattle.std.proofs.lemmas.Bool.Decides.{eqb_tells}
-use Rattle.std.specs.Option.{option_map_or, option_and_then}
+use Rattle.std.specs.Option.{option_map_or}
 use Rattle.std.specs.List.{range_with_len, find, list_any}
-use Rattle.std.specs.List.Sorted.{IsStrictlyIncreasing}
 use Rattle.std.specs.Ordering.{eq_by_cmp, is_eq}
 use Rattle.std.specs.Cmp.{tied_itself}
 use Rattle.std.specs.declared.cmp.Ordering.{Ordering}
@@ -12,31 +11,30 @@ use Rattle.std.specs.declared.cmp.Ordering.TheVariants.{Less, Equal, Greater}
 use Rattle.std.specs.FinMap as finite
 use Rattle.rl_base.specs.Stamps.{packed}
 use Rattle.rl_value.specs.Rows.{Rows, place_cmp}
-use Rattle.rl_value.specs.Tables.{Table, size_of, columns_of}
-use Rattle.rl_tables.specs.Numbers.{sizes_of, record_of, place_of}
+use Rattle.rl_value.specs.Tables.{Table, columns_of}
+use Rattle.rl_tables.specs.Numbers.{sizes_of, place_of}
 use Rattle.rl_tables.proofs.Sizes.{size_at}
 use Rattle.rl_txn.specs.Run.{Overlay, op_done, passes, ops_done, beginning, run, writes_of}
 use Rattle.rl_txn.specs.Eval.{rows_of, wants, HasRows, is_new, unknown, places_read, read_by}
 use Rattle.rl_txn.specs.Serial.{with_write, after_writes, Runs, IsSerial, indexes_of}
 use Rattle.rl_txn.specs.declared.op.Op.{Op}
 use Rattle.rl_txn.specs.declared.progress.Progress.{Progress}
-use Rattle.rl_txn.specs.declared.eval.Wants as eval
 use Rattle.rl_txn.specs.declared.eval.Wants.TheVariants.{Read as WantsRead, Ended as WantsEnded}
 use Rattle.rl_txn.specs.declared.write.End.{End}
-use Rattle.rl_txn.specs.declared.write.End.TheVariants.{Done, Declined}
+use Rattle.rl_txn.specs.declared.write.End.TheVariants.{Declined}
 use Rattle.rl_txn.specs.declared.write.Write.{Write}
 use Rattle.rl_txn.specs.declared.item.Item as txn
 use Rattle.rl_txn.proofs.RowSets.{places_total, same_place}
 use Rattle.rl_txn.proofs.Known.{get_after}
-use Rattle.rl_txn.proofs.Evals.{op_same, has_rows_of}
-use Rattle.rl_worker.specs.Phases.{Answer, Read, Install, Rec, Setting, has, row_at}
-use Rattle.rl_worker.specs.Items.{Item, AllRows, Meets, or_row, apply, Serial, Rising, Distinct, indexes, upto}
+use Rattle.rl_txn.proofs.Evals.{op_same}
+use Rattle.rl_worker.specs.Phases.{Answer, Read, Rec, has, row_at}
+use Rattle.rl_worker.specs.Items.{Item, AllRows, or_row, apply, Serial, Rising, Distinct, indexes, upto}
 use Rattle.rl_worker.specs.Acts.{no_rec}
-use Rattle.rl_worker.specs.Opening.{cells_of, row_of, overlay_of, install_of, request, asks, opening_recs, setting_of, item_of, items_of, CoreFits}
+use Rattle.rl_worker.specs.Opening.{cells_of, row_of, overlay_of, install_of, opening_recs, setting_of, item_of, items_of, CoreFits}
 use Rattle.rl_worker.proofs.Basics.{has_row}
 use Rattle.rl_worker.proofs.Places.{record_of_place, place_past_all}
 use Rattle.rl_worker.proofs.Writes.{WriteFits, WritesFit, run_fits, run_distinct, place_of_write}
-use Rattle.rl_worker.proofs.Settings.{Ending, ending, request_fits, sizes_length, rec_at, rec_past}
+use Rattle.rl_worker.proofs.Settings.{ending, request_fits, sizes_length, rec_at, rec_past}
 
 -- ---- a transaction on any rows that have what it read ----
 neither : (a b : Bool) → (a || b) ≡ false → (a ≡ false) × (b ≡ false)

@@ -1,5 +1,5 @@
 -- A read goes before the first of a later record.
-use Rattle.std.proofs.Common.{◌≡◌, ℕ, zero, suc, ◌+◌, ◌<◌, ◌≤◌, List, [], ◌∷◌, ◌++◌, length, nat_lt, Bool, true, false, not, Option, Some, None, if◌then◌else◌, refl, sym, ap, ◌∙◌, subst, arith, cond, position}
+use Rattle.std.proofs.Common.{◌≡◌, ℕ, suc, ◌+◌, ◌≤◌, List, [], ◌∷◌, length, nat_lt, Bool, true, false, not, Some, None, if◌then◌else◌, refl, ap, ◌∙◌, arith, cond, position}
 use Rattle.std.proofs.lemmas.Bool.Decides.{nat_tests}
 use Rattle.std.specs.List.{insert, position_or_len}
 use Rattle.std.specs.Option.{unwrap_or}

@@ -1,13 +1,13 @@
 -- The acts that change a record.
-use Rattle.std.proofs.Common.{◌≡◌, ◌≢◌, ◌⊎◌, ℕ, zero, suc, ◌+◌, ◌<◌, ◌≤◌, List, [], ◌∷◌, ◌++◌, length, get_or, take, set, Bool, true, false, not, ◌==◌, ◌&&◌, if◌then◌else◌, Option, Some, None, refl, sym, ap, ◌∙◌, subst, arith, inl, inr, true≢false, length-append, append_assoc, append-nil, eq-eqb, ne_eqb, eqb-true, length-set}
+use Rattle.std.proofs.Common.{◌≡◌, ◌≢◌, ◌⊎◌, ℕ, suc, ◌<◌, ◌≤◌, List, [], ◌∷◌, ◌++◌, length, get_or, take, set, Bool, true, false, ◌==◌, ◌&&◌, Option, Some, None, refl, sym, ap, ◌∙◌, arith, inl, inr, true≢false, append_assoc, eq-eqb, ne_eqb, eqb-true, length-set}
 use Rattle.std.proofs.lemmas.Grind.{common_steps}
 use Rattle.std.proofs.Math.Seq.{take-suc, take-suc-set}
 use Rattle.std.proofs.lemmas.Bool.Decides.{eqb_tells}
-use Rattle.rl_worker.proofs.States.{Answer, Read, Install, Rec, Status, Void, Drawn, Decided, Entry, Outcome, Wants, Ends, Phase, Rest, Asking, Wanting, Loading, Locking, Validating, Storing, Refusing, State, Setting, upd, has, row_at, live, decided, sets, other}
-use Rattle.rl_worker.proofs.Inv.{held, stores, pending, settled_by, settled, Distinct, Widths, Version, Alone, Seen, AllAlone, Holds, Below, OpenRead, Stored, Rows, ReadsOk, LoadingOk, LockingOk, ValidatingOk, StoringOk, RefusingOk, Knows, Final, Inv}
-use Rattle.rl_worker.proofs.Basics.{upd_same, upd_other, by_upd, has_append, has_append_old, has_append_new, has_dec}
+use Rattle.rl_worker.proofs.States.{Answer, Read, Install, Rec, Phase, Rest, Asking, Wanting, Loading, Locking, Validating, Storing, Refusing, State, Setting, upd, has, row_at, sets}
+use Rattle.rl_worker.proofs.Inv.{held, pending, settled_by, settled, Version, Stored, Knows, Inv}
+use Rattle.rl_worker.proofs.Basics.{upd_same, upd_other, by_upd, has_append, has_append_old, has_append_new}
 use Rattle.rl_worker.proofs.Keeps.{Keeps, knows_kept, final_kept, reads_kept}
-use Rattle.rl_worker.proofs.Local.{decided_lives, settled_goes, Lawful, and_false}
+use Rattle.rl_worker.proofs.Local.{decided_lives, settled_goes, Lawful}
 
 pub both : (a b : Bool) → (a && b) ≡ true → (a ≡ true) × (b ≡ true)
 both true b h = (refl, h)

@@ -1,8 +1,7 @@
 -- What an act of one worker leaves to the others, and that their facts stay.
-use Rattle.std.proofs.Common.{◌≡◌, ◌≢◌, ◌⊎◌, ℕ, zero, suc, ◌+◌, ◌<◌, ◌≤◌, List, [], ◌∷◌, ◌++◌, length, get_or, take, set, Bool, true, false, not, ◌==◌, ◌&&◌, if◌then◌else◌, Option, Some, None, refl, sym, ap, ◌∙◌, subst, arith, inl, inr, true≢false, eq-eqb}
-use Rattle.rl_worker.proofs.States.{Answer, Read, Install, Rec, Status, Void, Drawn, Decided, Entry, Outcome, Wants, Ends, Phase, Rest, Asking, Wanting, Loading, Locking, Validating, Storing, Refusing, State, Setting, upd, has, row_at, live, decided}
-use Rattle.rl_worker.proofs.Inv.{held, stores, pending, settled_by, settled, Version, Alone, Seen, AllAlone, Holds, Below, OpenRead, Stored, ReadsOk, LoadingOk, LockingOk, ValidatingOk, StoringOk, RefusingOk, Knows, Final, Inv}
-use Rattle.rl_worker.proofs.Basics.{upd_same, upd_other, by_upd}
+use Rattle.std.proofs.Common.{◌≡◌, ◌≢◌, ℕ, ◌<◌, ◌≤◌, List, [], ◌∷◌, ◌++◌, length, take, true, Some, refl, sym, ap, ◌∙◌, arith, eq-eqb}
+use Rattle.rl_worker.proofs.States.{Read, Install, Phase, Rest, Asking, Wanting, Loading, Locking, Validating, Storing, Refusing, State, Setting, live}
+use Rattle.rl_worker.proofs.Inv.{settled, Version, Alone, Seen, AllAlone, Holds, Below, OpenRead, Stored, ReadsOk, Knows, Final}
 
 module _ (S : Setting) where
   pub record Keeps (σ τ : State) (w : ℕ) : Type 0 where

@@ -1,22 +1,21 @@
 -- The machine over lists makes the acts of the machine over functions.
-use Rattle.std.proofs.Common.{◌≡◌, ◌≢◌, ◌⊎◌, ℕ, zero, suc, ◌+◌, ◌-◌, ◌<◌, ◌≤◌, List, [], ◌∷◌, ◌++◌, length, get_or, take, set, Bool, true, false, not, ◌==◌, nat_lt, ◌&&◌, if◌then◌else◌, Option, Some, None, refl, sym, ap, ◌∙◌, subst, arith, inl, inr, true≢false, eqb-true, append_assoc, append-nil, get_or-set_other, get_or-set_same, length-set, eq-eqb}
+use Rattle.std.proofs.Common.{◌≡◌, ◌⊎◌, ℕ, zero, suc, ◌+◌, ◌<◌, ◌≤◌, List, [], ◌∷◌, ◌++◌, length, get_or, set, true, false, ◌==◌, nat_lt, Option, Some, None, refl, sym, ap, ◌∙◌, subst, arith, inl, inr, true≢false, eqb-true, get_or-set_other, get_or-set_same, length-set, eq-eqb}
 use Rattle.std.proofs.lemmas.List.{get_or_past}
 use Rattle.std.proofs.lemmas.Bool.{cases_lt}
-use Rattle.rl_worker.proofs.Installs.{none_some, some_same}
+use Rattle.rl_worker.proofs.Installs.{none_some}
 use Rattle.rl_worker.proofs.Inv.{held, Distinct}
-use Rattle.std.proofs.lemmas.Bool.Decides.{eqb_tells, nat_tests}
-use Rattle.std.proofs.lemmas.Grind.{common_steps}
+use Rattle.std.proofs.lemmas.Bool.Decides.{eqb_tells}
 use mathlib.Core.Path.{fun_ext}
-use Rattle.rl_worker.proofs.States.{Answer, Read, Install, Rec, Status, Void, Drawn, Decided, Entry, Outcome, Wants, Ends, Phase, Rest, Asking, Wanting, Loading, Locking, Validating, Storing, Refusing, State, Setting, upd, has, row_at, with_read, live, decided, goes, sets, draws, ends, asked, other, first_load, confirm, lock, act, ask}
-use Rattle.rl_worker.specs.Items.{Item, place, Serial, Rising}
-use Rattle.rl_worker.specs.Acts.{IsTrueCause, AllTrue, Cause, Locked, Changed, Refusal, Event, Quiet, Drew, Won, Lost, LostDrawn, Moved, target, quiet, lost, lost_drawn, first_load_of, confirm_of, lock_of, moved, Core, no_rec, next_after, decided_after, refusals_after, after, phase_of, micro_at, micro, passing, resting, settle, begin, step, idle, Turn, Step, Idle, turn, run}
+use Rattle.rl_worker.proofs.States.{Answer, Read, Install, Rec, Void, Drawn, Decided, Entry, Ends, Phase, Rest, Asking, Wanting, Loading, Locking, Validating, Storing, Refusing, State, Setting, upd, has, with_read, goes, sets, asked, other}
+use Rattle.rl_worker.specs.Items.{place}
+use Rattle.rl_worker.specs.Acts.{IsTrueCause, AllTrue, Cause, Locked, Changed, Event, Quiet, Drew, Won, Lost, LostDrawn, quiet, lost, lost_drawn, first_load_of, confirm_of, lock_of, moved, Core, no_rec, next_after, decided_after, refusals_after, after, micro_at}
 use Rattle.rl_worker.proofs.Basics.{upd_same, upd_other, by_upd}
 use Rattle.rl_worker.proofs.Inv.{Inv, Knows}
 use Rattle.rl_worker.proofs.Local.{Lawful, begin_inv, give_up_inv, give_up_load_inv, ask_inv, first_load_inv, column_load_inv, confirm_inv, lock_refused_inv, validate_inv, rest_inv, released_inv}
 use Rattle.rl_worker.proofs.Installs.{lock_inv, store_inv, free_inv, close_inv}
 use Rattle.rl_worker.proofs.Stamps.{alone_now, draw_inv, decide_inv, void_inv}
 use Rattle.rl_worker.proofs.Acts.{by_test, test_lt, test_ge}
-use Rattle.rl_worker.proofs.Serial.{item, items_from, items_decided, items_drawn, items_voided, all_serial, items_rise}
+use Rattle.rl_worker.proofs.Serial.{item, items_from, items_decided, items_drawn, items_voided}
 
 abbrev pub lift : Core → (ℕ → Entry) → State
 lift c log = record { recs = λ r. get_or c.recs r no_rec; workers = λ w. get_or c.workers w (Rest 0); log = log; next = c.next }

@@ -1,10 +1,10 @@
 -- The acts that change the worker alone.
-use Rattle.std.proofs.Common.{◌≡◌, ◌≢◌, ◌⊎◌, ℕ, zero, suc, ◌+◌, ◌<◌, ◌≤◌, List, [], ◌∷◌, ◌++◌, length, get_or, take, set, Bool, true, false, not, ◌==◌, nat_lt, ◌&&◌, if◌then◌else◌, Option, Some, None, refl, sym, ap, ◌∙◌, subst, arith, inl, inr, true≢false, length-append, append_assoc, append-nil}
+use Rattle.std.proofs.Common.{◌≡◌, ℕ, suc, ◌<◌, ◌≤◌, List, [], ◌∷◌, ◌++◌, length, get_or, take, Bool, true, false, not, ◌==◌, nat_lt, ◌&&◌, if◌then◌else◌, Option, Some, None, refl, sym, ap, ◌∙◌, arith, inl, inr, true≢false, length-append, append_assoc}
 use Rattle.std.proofs.lemmas.Grind.{common_steps}
 use Rattle.std.proofs.lemmas.Bool.Decides.{eqb_tells}
-use Rattle.rl_worker.proofs.States.{Answer, Read, Install, Rec, Status, Void, Drawn, Decided, Entry, Outcome, Wants, Ends, Phase, Rest, Asking, Wanting, Loading, Locking, Validating, Storing, Refusing, State, Setting, upd, has, row_at, with_read, live, decided, goes, asked}
-use Rattle.rl_worker.proofs.Inv.{held, stores, pending, settled_by, settled, Distinct, Widths, Version, Alone, Seen, AllAlone, Holds, Below, OpenRead, Stored, ReadsOk, LoadingOk, LockingOk, ValidatingOk, StoringOk, RefusingOk, Knows, Final, Inv}
-use Rattle.rl_worker.proofs.Basics.{upd_same, upd_other, by_upd}
+use Rattle.rl_worker.proofs.States.{Answer, Read, Install, Status, Void, Drawn, Decided, Outcome, Wants, Ends, Phase, Rest, Asking, Wanting, Loading, Locking, Validating, Storing, Refusing, State, Setting, upd, has, with_read, live, decided, goes, asked}
+use Rattle.rl_worker.proofs.Inv.{held, stores, pending, settled_by, settled, Distinct, Version, Alone, Seen, AllAlone, ReadsOk, Knows, Inv}
+use Rattle.rl_worker.proofs.Basics.{by_upd}
 use Rattle.rl_worker.proofs.Keeps.{Keeps, knows_kept, final_kept}
 pub use Rattle.rl_worker.specs.Items.{Lawful}
 

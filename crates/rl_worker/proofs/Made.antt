@@ -1,12 +1,11 @@
 -- Each worker's stamps rise, over its items and idle draws.
-use Rattle.std.proofs.Common.{◌≡◌, ◌≢◌, ◌⊎◌, ℕ, zero, suc, ◌+◌, ◌<◌, ◌≤◌, List, [], ◌∷◌, ◌++◌, length, get_or, set, Bool, true, false, ◌==◌, nat_lt, if◌then◌else◌, Option, Some, None, refl, sym, ap, ◌∙◌, subst, arith, inl, inr, true≢false, length-set}
-use Rattle.std.proofs.lemmas.Bool.Decides.{eqb_tells, nat_tests}
+use Rattle.std.proofs.Common.{◌≡◌, ◌≢◌, ℕ, zero, suc, ◌<◌, ◌≤◌, List, [], ◌∷◌, length, get_or, true, ◌==◌, nat_lt, Option, Some, None, refl, sym, ap, subst, arith, inl, inr, true≢false, length-set}
+use Rattle.std.proofs.lemmas.Bool.Decides.{eqb_tells}
 use Rattle.rl_worker.proofs.States.{Answer, Read, Install, Rec, Outcome, Wants, Ends, Phase, Rest, Asking, Wanting, Loading, Locking, Validating, Storing, Refusing, Setting, asked, other, upd}
-use Rattle.rl_worker.specs.Items.{Item, place, Rising, indexes, upto, InLists}
-use Rattle.rl_worker.specs.Acts.{quiet, lost, Changed, Event, Quiet, Drew, Won, Lost, LostDrawn, Moved, target, first_load_of, confirm_of, lock_of, moved, Core, no_rec, next_after, made_after, stamps_by, AllUnder, IsFalling, DrawnAbove, IsBelowNext, decided_after, after, phase_of, micro_at, opening, idle, resting, micro, passing, settle, begin, step, step_on, is_done, may, Turn, Step, Idle, turn, run, AllRest}
+use Rattle.rl_worker.specs.Acts.{Moved, target, first_load_of, confirm_of, lock_of, moved, Core, no_rec, next_after, made_after, stamps_by, AllUnder, IsFalling, DrawnAbove, IsBelowNext, after, phase_of, micro_at, opening, idle, resting, micro, passing, settle, begin, step, step_on, is_done, may, Turn, Step, Idle, turn, run, AllRest}
 use Rattle.rl_worker.proofs.Whole.{there}
-use Rattle.rl_worker.proofs.Basics.{by_upd, upd_same, upd_other}
-use Rattle.rl_worker.proofs.Acts.{by_test, test_lt, test_ge}
+use Rattle.rl_worker.proofs.Basics.{by_upd}
+use Rattle.rl_worker.proofs.Acts.{by_test}
 use Rattle.rl_worker.proofs.Lift.{set_reads}
 
 under_up : (t u : ℕ) (xs : List ℕ) → t ≤ u → AllUnder t xs → AllUnder u xs

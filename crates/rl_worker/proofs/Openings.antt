@@ -7,7 +7,6 @@ use Rattle.rl_value.specs.Tables.{Table, size_of, columns_of}
 use Rattle.rl_tables.specs.Numbers.{sizes_of, place_of}
 use Rattle.rl_txn.proofs.Folds.{range_push}
 use Rattle.rl_worker.specs.declared.words.Record.{Record}
-use Rattle.rl_worker.specs.Phases.{Rec}
 use Rattle.rl_worker.specs.Opening.{cells_of, opening_rec}
 use Rattle.rl_worker.specs.Acts.{no_rec}
 use Rattle.rl_worker.specs.Workers.{RecordFits, RowHas, found}

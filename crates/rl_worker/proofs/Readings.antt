@@ -1,12 +1,11 @@
 -- A read that counts is known to the evaluation.
-use Rattle.std.proofs.Common.{◌≡◌, ◌≢◌, ℕ, zero, suc, ◌+◌, ◌<◌, ◌≤◌, List, [], ◌∷◌, ◌++◌, length, map, get_or, sum, nat_lt, Bool, true, false, not, is_some, if◌then◌else◌, ◌==◌, Option, Some, None, refl, sym, ap, ◌∙◌, subst, arith, cond, set, All}
+use Rattle.std.proofs.Common.{◌≡◌, ℕ, zero, suc, ◌≤◌, List, [], ◌∷◌, length, nat_lt, Bool, true, false, not, is_some, if◌then◌else◌, ◌==◌, Option, Some, None, refl, sym, ap, ◌∙◌, subst, arith, cond, set, All}
 use mathlib.Core.Bool.{false≢true}
 use Rattle.std.proofs.lemmas.Bool.Decides.{nat_tests}
 use Rattle.std.specs.Ordering.{eq_by_cmp, is_eq}
 use Rattle.std.specs.declared.cmp.Ordering.{Ordering}
 use Rattle.std.specs.declared.cmp.Ordering.TheVariants.{Less, Equal, Greater}
 use Rattle.std.specs.FinMap as finite
-use Rattle.std.specs.List.{find}
 use Rattle.rl_base.specs.declared.refusal.Refusal.{Refusal}
 use Rattle.rl_value.specs.Rows.{place_cmp}
 use Rattle.rl_value.specs.Tables.{Table}
@@ -15,10 +14,9 @@ use Rattle.rl_txn.specs.Run.{Overlay}
 use Rattle.rl_txn.specs.Eval.{is_new}
 use Rattle.rl_txn.proofs.RowSets.{places_total, same_place}
 use Rattle.rl_worker.specs.declared.act.Act.TheVariants as act
-use Rattle.rl_worker.specs.declared.act.Moved as code
 use Rattle.rl_worker.specs.declared.reading.Reading.{Reading}
 use Rattle.rl_worker.specs.declared.words.Words.{Words}
-use Rattle.rl_worker.specs.Phases.{Read, Rec, Phase, Rest, Asking, Loading, Setting, with_read}
+use Rattle.rl_worker.specs.Phases.{Read, Rec, Rest, Asking, Loading, Setting, with_read}
 use Rattle.rl_worker.specs.Acts.{quiet, lost, Changed, confirm_of}
 use Rattle.rl_worker.specs.Opening.{overlay_of, row_of}
 use Rattle.rl_worker.specs.Workers.{found, word, reading_phase, IsAct}

@@ -1,9 +1,9 @@
 -- The acts, computed on worked schedules.
-use Rattle.std.proofs.Common.{◌≡◌, ℕ, zero, suc, ◌+◌, List, [], ◌∷◌, ◌++◌, map, get_or, Bool, true, false, nat_lt, nat_le, ◌==◌, if◌then◌else◌, Option, Some, None, refl, replicate}
+use Rattle.std.proofs.Common.{◌≡◌, ℕ, zero, suc, ◌+◌, List, [], ◌∷◌, ◌++◌, map, get_or, nat_le, ◌==◌, if◌then◌else◌, Some, None, refl, replicate}
 use Rattle.rl_txn.specs.declared.write.End.TheVariants.{Done}
-use Rattle.rl_worker.specs.Phases.{Answer, Read, Install, Rec, Outcome, Wants, Ends, Phase, Rest, Setting}
+use Rattle.rl_worker.specs.Phases.{Answer, Read, Rec, Outcome, Wants, Ends, Rest, Setting}
 use Rattle.rl_worker.specs.Items.{Item}
-use Rattle.rl_worker.specs.Acts.{Core, Refusal, Cause, Locked, Changed, Turn, Step, opening, run}
+use Rattle.rl_worker.specs.Acts.{Core, Locked, Changed, Turn, Step, opening, run}
 
 no_answer : Answer
 no_answer = (record { outs = []; end = Done }, [])

@@ -1,10 +1,10 @@
 -- What the invariant says of the decided entries: they are serial.
-use Rattle.std.proofs.Common.{◌≡◌, ◌≢◌, ◌⊎◌, ℕ, zero, suc, ◌+◌, ◌<◌, ◌≤◌, List, [], ◌∷◌, ◌++◌, length, get_or, take, set, Bool, true, false, not, ◌==◌, nat_lt, ◌&&◌, if◌then◌else◌, Option, Some, None, refl, sym, ap, ◌∙◌, subst, arith, inl, inr, true≢false, eqb-true, append_assoc, append-nil}
+use Rattle.std.proofs.Common.{◌≡◌, ◌≢◌, ℕ, zero, suc, ◌+◌, ◌<◌, ◌≤◌, List, [], ◌∷◌, Bool, true, false, nat_lt, Option, Some, None, refl, sym, ap, ◌∙◌, subst, arith, inl, inr}
 use Rattle.std.proofs.lemmas.Bool.Decides.{eqb_tells, nat_tests}
 use mathlib.Core.Path.{fun_ext}
-use Rattle.rl_worker.proofs.States.{Answer, Read, Install, Rec, Status, Void, Drawn, Decided, Entry, Outcome, Wants, Ends, Phase, State, Setting, upd, has, row_at, live, decided}
-use Rattle.rl_worker.specs.Items.{Item, AllRows, Meets, or_row, apply, Serial, Rising, place}
-use Rattle.rl_worker.proofs.Inv.{Version, Alone, Seen, AllAlone, Final, Inv}
+use Rattle.rl_worker.proofs.States.{Read, Void, Decided, Entry, State, Setting, upd, has, row_at, decided}
+use Rattle.rl_worker.specs.Items.{Item, AllRows, Meets, or_row, Serial, Rising, place}
+use Rattle.rl_worker.proofs.Inv.{Version, Alone, Seen, AllAlone, Inv}
 use Rattle.rl_worker.proofs.Local.{Lawful, decided_lives}
 use Rattle.rl_worker.proofs.Basics.{has_row, upd_same, upd_other}
 

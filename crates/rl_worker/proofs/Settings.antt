@@ -1,5 +1,5 @@
 -- Real tables, requests and rows are a lawful setting.
-use Rattle.std.proofs.Common.{◌≡◌, ◌≢◌, ◌⊎◌, ℕ, zero, suc, ◌+◌, ◌-◌, ◌*◌, ◌^◌, ◌<◌, ◌≤◌, List, [], ◌∷◌, ◌++◌, length, map, sum, get_or, take, slice_get, slice_index, replicate, nat_lt, ◌==◌, Bool, true, false, if◌then◌else◌, Option, Some, None, refl, sym, ap, ◌∙◌, subst, arith, inl, inr, true≢false, All, is_some}
+use Rattle.std.proofs.Common.{◌≡◌, ℕ, zero, suc, ◌+◌, ◌*◌, ◌^◌, ◌<◌, ◌≤◌, List, [], ◌∷◌, length, map, sum, get_or, slice_get, slice_index, true, Option, Some, None, refl, sym, ap, ◌∙◌, subst, arith, inl, inr, true≢false, All}
 use Rattle.std.proofs.lemmas.Bool.{cases_lt}
 use Rattle.std.proofs.lemmas.Bool.Decides.{eqb_tells}
 use Rattle.std.proofs.lemmas.List.{get_or_past, length-replicate}
@@ -7,9 +7,8 @@ use Rattle.std.proofs.lemmas.List.FromFn.{get_or-map-range_with_len, length-map-
 use Rattle.std.specs.Option.{option_map_or, option_and_then}
 use Rattle.std.specs.List.{range_with_len}
 use Rattle.std.specs.FinMap as finite
-use Rattle.rl_value.specs.Fits.{RowsFit}
 use Rattle.rl_value.specs.Rows.{Rows}
-use Rattle.rl_value.specs.Tables.{Table, size_of, columns_of}
+use Rattle.rl_value.specs.Tables.{Table, columns_of}
 use Rattle.rl_tables.specs.Numbers.{sizes_of, record_of, place_of}
 use Rattle.rl_tables.proofs.Sizes.{sum_before, size_at}
 use Rattle.rl_txn.specs.Fits.{TxnFits, ListsFit}
@@ -21,7 +20,7 @@ use Rattle.rl_txn.specs.declared.eval.Wants as eval
 use Rattle.rl_txn.specs.declared.eval.Wants.TheVariants.{Read as WantsRead, Ended as WantsEnded}
 use Rattle.rl_txn.specs.declared.write.End.{End}
 use Rattle.rl_txn.specs.declared.write.Write.{Write}
-use Rattle.rl_worker.specs.Phases.{Answer, Read, Install, Rec, Outcome, Wants, Ends, Phase, Rest, Setting, has}
+use Rattle.rl_worker.specs.Phases.{Answer, Read, Install, Rec, Wants, Ends, Rest, Setting, has}
 use Rattle.rl_worker.specs.Items.{Distinct, Widths, Lawful}
 use Rattle.rl_worker.specs.Acts.{no_rec, AllFree, AllRest, Opens, RestAt}
 use Rattle.rl_worker.specs.Opening.{cells_of, overlay_of, install_of, outcome_of, outcome, request, asks, opening_rec, opening_recs, setting_of, first_of, at_rest, CoreFits}

@@ -1,9 +1,9 @@
 -- Once every stamp up to t is decided or refused, no item with a stamp up to t comes later.
-use Rattle.std.proofs.Common.{◌≡◌, ◌≢◌, ◌⊎◌, ℕ, zero, suc, ◌+◌, ◌<◌, ◌≤◌, List, [], ◌∷◌, ◌++◌, length, get_or, set, Bool, true, false, ◌==◌, ◌&&◌, nat_lt, nat_le, if◌then◌else◌, Option, Some, None, refl, sym, ap, ◌∙◌, subst, arith, inl, inr, length-set}
+use Rattle.std.proofs.Common.{◌≡◌, ℕ, ◌<◌, ◌≤◌, List, [], ◌∷◌, length, get_or, true, false, ◌==◌, ◌&&◌, nat_lt, nat_le, if◌then◌else◌, Option, Some, None, refl, sym, ap, ◌∙◌, subst, arith, length-set}
 use Rattle.std.proofs.lemmas.Bool.Decides.{nat_tests}
-use Rattle.rl_worker.proofs.States.{Answer, Read, Install, Rec, Outcome, Wants, Ends, Phase, Rest, Asking, Wanting, Loading, Locking, Validating, Storing, Refusing, Setting, asked, other, upd}
+use Rattle.rl_worker.proofs.States.{Answer, Read, Install, Rec, Outcome, Wants, Ends, Phase, Rest, Asking, Wanting, Loading, Locking, Validating, Storing, Refusing, Setting, asked, other}
 use Rattle.rl_worker.specs.Items.{Item, place, early}
-use Rattle.rl_worker.specs.Acts.{Event, Quiet, Drew, Won, Lost, LostDrawn, Moved, target, first_load_of, confirm_of, lock_of, moved, Core, no_rec, next_after, decided_after, after, phase_of, micro_at, micro, passing, resting, settle, begin, step, step_on, is_done, may, idle, Turn, Step, Idle, turn, run, Above, IsSettled}
+use Rattle.rl_worker.specs.Acts.{Moved, target, first_load_of, confirm_of, lock_of, moved, Core, no_rec, next_after, decided_after, phase_of, micro, passing, resting, settle, begin, step, step_on, is_done, may, idle, Turn, Step, Idle, turn, run, Above, IsSettled}
 use Rattle.rl_worker.proofs.Installs.{both}
 use Rattle.rl_worker.proofs.Basics.{by_upd}
 use Rattle.rl_worker.proofs.Acts.{by_test, test_lt}

@@ -1,5 +1,5 @@
 -- What a worker comes to by an act.
-use Rattle.std.proofs.Common.{◌≡◌, ℕ, ◌+◌, List, Bool, true, false, is_some, if◌then◌else◌, Option, Some, None, refl, sym, ap, ◌∙◌, subst}
+use Rattle.std.proofs.Common.{◌≡◌, ℕ, List, Bool, true, false, is_some, if◌then◌else◌, Option, Some, None, refl, sym, ap, ◌∙◌, subst}
 use mathlib.Core.Bool.{false≢true}
 use Rattle.rl_base.specs.declared.refusal.Refusal.{Refusal}
 use Rattle.rl_value.specs.Tables.{Table}
@@ -8,12 +8,11 @@ use Rattle.rl_worker.specs.declared.act.Moved as code
 use Rattle.rl_worker.specs.declared.commit.Commit.{Commit}
 use Rattle.rl_worker.specs.declared.reading.Reading.{Reading}
 use Rattle.rl_worker.specs.declared.words.Words.{Words}
-use Rattle.rl_worker.specs.declared.worker.Stage.{Stage}
 use Rattle.rl_worker.specs.declared.worker.Stage.TheVariants as stage
 use Rattle.rl_worker.specs.declared.worker.Worker.{Worker}
-use Rattle.rl_worker.specs.Phases.{Phase, Rest, Wants, Setting}
+use Rattle.rl_worker.specs.Phases.{Rest, Wants, Setting}
 use Rattle.rl_worker.specs.Acts.{no_rec}
-use Rattle.rl_worker.specs.Workers.{reading_phase, reading_left, commit_phase, phase_of, IsAct, CommitFits, IsOfAttempt, HasMore, IsCommitting, decided, is_over, decided_at, ended, finished, Commits}
+use Rattle.rl_worker.specs.Workers.{reading_phase, reading_left, commit_phase, phase_of, IsAct, CommitFits, IsOfAttempt, IsCommitting, decided, is_over, decided_at, ended, finished, Commits}
 
 pub left_rest : (q : ℕ) (r : Reading) (o : Option Refusal) → is_some o ≡ true → reading_left q r o ≡ Rest q
 left_rest q r None e = absurd (false≢true e)

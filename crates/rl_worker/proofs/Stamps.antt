@@ -1,12 +1,12 @@
 -- The acts that change the log: a draw, a decision, a refusal after the draw.
-use Rattle.std.proofs.Common.{◌≡◌, ◌≢◌, ◌⊎◌, ℕ, zero, suc, ◌+◌, ◌<◌, ◌≤◌, List, [], ◌∷◌, ◌++◌, length, get_or, take, set, Bool, true, false, not, ◌==◌, ◌&&◌, if◌then◌else◌, Option, Some, None, refl, sym, ap, ◌∙◌, subst, arith, inl, inr, true≢false, append_assoc, append-nil, eq-eqb, ne_eqb, eqb-true}
+use Rattle.std.proofs.Common.{◌≡◌, ◌≢◌, ◌⊎◌, ℕ, suc, ◌<◌, ◌≤◌, List, [], ◌∷◌, ◌++◌, true, false, not, ◌==◌, Option, Some, None, refl, sym, ap, ◌∙◌, subst, arith, inl, inr, true≢false, append-nil, eq-eqb, eqb-true}
 use Rattle.std.proofs.lemmas.Bool.Decides.{eqb_tells}
-use Rattle.rl_worker.proofs.States.{Answer, Read, Install, Rec, Status, Void, Drawn, Decided, Entry, Outcome, Wants, Ends, Phase, Rest, Asking, Wanting, Loading, Locking, Validating, Storing, Refusing, State, Setting, upd, has, row_at, live, decided, draws, ends, other}
-use Rattle.rl_worker.proofs.Inv.{held, stores, pending, settled_by, settled, Distinct, Widths, Version, Alone, Seen, AllAlone, Holds, Below, OpenRead, Stored, Rows, ReadsOk, LoadingOk, LockingOk, ValidatingOk, StoringOk, RefusingOk, Knows, Final, Inv}
+use Rattle.rl_worker.proofs.States.{Answer, Read, Install, Void, Drawn, Decided, Entry, Phase, Locking, Validating, Storing, Refusing, State, Setting, upd, has, row_at, live, decided, draws, ends, other}
+use Rattle.rl_worker.proofs.Inv.{held, stores, pending, settled_by, settled, Alone, Knows, Final, Inv}
 use Rattle.rl_worker.proofs.Basics.{upd_same, upd_other, by_upd, has_dec}
-use Rattle.rl_worker.proofs.Keeps.{Keeps, knows_kept, final_kept, reads_kept, seen_kept, all_alone_kept}
+use Rattle.rl_worker.proofs.Keeps.{Keeps, final_kept, seen_kept, all_alone_kept}
 use Rattle.rl_worker.proofs.Local.{decided_lives, settled_goes, Lawful}
-use Rattle.rl_worker.proofs.Installs.{knows_all, pending_holds, both, some_same, none_some, stored_none}
+use Rattle.rl_worker.proofs.Installs.{knows_all, pending_holds, both, stored_none}
 
 pub settled_less : (ws : ℕ → Phase) (w : ℕ) (p : Phase) (h : Option ℕ) (r : ℕ) → stores (ws w) r ≡ false → settled_by (upd ws w p) h r ≡ true → settled_by ws h r ≡ true
 settled_less ws w p None r e = λ s. refl

@@ -23,7 +23,7 @@ use Rattle.rl_worker.specs.Phases.{Read, Phase, Rest, Asking, Wanting, Loading, 
 use Rattle.rl_worker.specs.Acts as acts
 use Rattle.rl_worker.specs.Acts.{Core, resting, target, micro, settle, step, step_on, begin, is_done}
 use Rattle.rl_worker.specs.Opening.{outcome, request, setting_of}
-use Rattle.rl_worker.specs.Workers.{part_phase, reading_phase, stage_phase, phase_of, StageFits, IsAttemptOf, is_resting, decided_at, decided_item, found, act_of, act_made, IsAct, IsActed, Loaded, Confirmed, Committed, Stands, Steps, stamp_next, either, newly_decided, core_item, joined, IsOf, stamp_by}
+use Rattle.rl_worker.specs.Workers.{part_phase, reading_phase, stage_phase, phase_of, StageFits, IsAttemptOf, is_resting, decided_at, decided_item, found, act_of, act_made, IsActed, Loaded, Confirmed, Committed, Stands, Steps, stamp_next, either, newly_decided, core_item, joined, IsOf, stamp_by}
 use Rattle.rl_worker.proofs.Cores.{At, Settled, begun}
 use Rattle.rl_worker.proofs.Stages.{no_setting}
 use Rattle.rl_worker.proofs.Turns.{stepped}

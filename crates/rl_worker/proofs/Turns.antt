@@ -1,12 +1,11 @@
 -- What an act of the code comes to in the core, with what follows it.
-use Rattle.std.proofs.Common.{◌≡◌, ◌≢◌, ℕ, zero, suc, ◌+◌, ◌*◌, ◌^◌, ◌<◌, ◌≤◌, List, [], ◌∷◌, ◌++◌, length, map, get_or, take, drop, set, Bool, true, false, not, nat_lt, is_some, if◌then◌else◌, ◌==◌, Option, Some, None, Result, Ok, Err, IfSome, IsSomeAnd, option_to_list, refl, sym, ap, ◌∙◌, subst, arith, add-one, inl, inr, ◌⊎◌}
+use Rattle.std.proofs.Common.{◌≡◌, ℕ, ◌+◌, ◌<◌, ◌≤◌, List, [], ◌∷◌, ◌++◌, length, take, drop, set, Bool, true, false, is_some, if◌then◌else◌, ◌==◌, Option, Some, None, Result, Ok, Err, IfSome, option_to_list, refl, sym, ap, ◌∙◌, subst, arith, add-one, inl, inr}
 use mathlib.Core.Bool.{false≢true}
-use Rattle.std.proofs.lemmas.Bool.Decides.{eqb_tells, nat_tests}
-use Rattle.std.specs.Option.{option_map, option_map_or}
-use Rattle.std.proofs.lemmas.List.{get_or-set_same, length-set, set-set, set-get_or, drop_more, drop_all, length-map, length-take-le, length-drop}
+use Rattle.std.proofs.lemmas.Bool.Decides.{eqb_tells}
+use Rattle.std.specs.Option.{option_map}
+use Rattle.std.proofs.lemmas.List.{set-set, drop_all, length-map, length-take-le, length-drop}
 use Rattle.rl_base.specs.declared.refusal.Refusal.{Refusal}
 use Rattle.rl_base.specs.Stamps.{packed}
-use Rattle.rl_value.specs.Rows.{Rows}
 use Rattle.rl_value.specs.Tables.{Table}
 use Rattle.rl_txn.specs.declared.op.Op.{Op}
 use Rattle.rl_txn.specs.declared.item.Item as txn
@@ -19,12 +18,11 @@ use Rattle.rl_worker.specs.declared.reading.Reading.{Reading}
 use Rattle.rl_worker.specs.declared.worker.Stage.{Stage}
 use Rattle.rl_worker.specs.declared.worker.Stage.TheVariants as stage
 use Rattle.rl_worker.specs.declared.worker.Worker.{Worker}
-use Rattle.rl_worker.specs.Phases.{Answer, Read, Install, Rec, Outcome, Wants, Ends, Phase, Rest, Asking, Wanting, Loading, Locking, Validating, Storing, Refusing, Setting, asked}
-use Rattle.rl_worker.specs.Items.{Item}
+use Rattle.rl_worker.specs.Phases.{Read, Install, Outcome, Wants, Ends, Phase, Rest, Asking, Wanting, Loading, Locking, Validating, Storing, Refusing, Setting, asked}
 use Rattle.rl_worker.specs.Acts as acts
 use Rattle.rl_worker.specs.Acts.{Core, passing, resting, micro, settle}
-use Rattle.rl_worker.specs.Opening.{install_of, outcome, request, setting_of}
-use Rattle.rl_worker.specs.Workers.{installs, part_phase, commit_phase, reading_phase, stage_phase, phase_of, PartFits, HasMore, CommitFits, StageFits, IsAttemptOf, IsOfAttempt, IsAct, is_storing, is_over, decided_in, decided, decided_at, decided_item, ended, finished, is_reading, is_resting, confirmed_phase, ran_on, Confirms, Commits, IsActed, Loaded, Confirmed, Committed, Stands, Steps, stamp_next, either, newly_decided, core_item, joined, refused, IsOf, stamp_by}
+use Rattle.rl_worker.specs.Opening.{install_of, outcome}
+use Rattle.rl_worker.specs.Workers.{installs, part_phase, commit_phase, reading_phase, stage_phase, phase_of, PartFits, HasMore, StageFits, IsAttemptOf, IsAct, is_storing, is_over, decided_in, decided, decided_at, decided_item, ended, finished, is_reading, confirmed_phase, ran_on, Confirms, Commits, IsActed, Loaded, Confirmed, Committed, Stands, Steps, stamp_next, either, newly_decided, core_item, joined, IsOf, stamp_by}
 use Rattle.rl_worker.proofs.Cores.{passed, wins, index_in, At, acted, settled, stamps_added}
 
 -- nothing is passed in a phase in which a worker may stand

@@ -1,14 +1,14 @@
 -- Every schedule.
-use Rattle.std.proofs.Common.{◌≡◌, ◌≢◌, ◌⊎◌, ℕ, zero, suc, ◌+◌, ◌-◌, ◌<◌, ◌≤◌, List, [], ◌∷◌, ◌++◌, length, get_or, take, set, Bool, true, false, not, ◌==◌, nat_lt, ◌&&◌, if◌then◌else◌, Option, Some, None, refl, sym, ap, ◌∙◌, subst, arith, inl, inr, true≢false, length-set}
-use Rattle.rl_worker.proofs.States.{Answer, Read, Install, Rec, Status, Void, Drawn, Decided, Entry, Outcome, Wants, Ends, Phase, Rest, Asking, Wanting, Loading, Locking, Validating, Storing, Refusing, State, Setting, upd, has, row_at, live, decided}
-use Rattle.rl_worker.specs.Items.{Item, place, Serial, Rising, Lawful, InLists}
-use Rattle.rl_worker.specs.Acts.{AllTrue, Core, no_rec, phase_of, micro_at, micro, passing, resting, settle, begin, step, step_on, is_done, may, idle, Turn, Step, Idle, turn, run, target, moved, AllFree, AllRest, opening, Opens}
-use Rattle.rl_worker.proofs.Inv.{Inv, Knows, held, stores, pending, settled_by}
+use Rattle.std.proofs.Common.{◌≡◌, ℕ, zero, suc, ◌<◌, List, [], ◌∷◌, length, get_or, Bool, true, false, nat_lt, ◌&&◌, None, refl, sym, ap, ◌∙◌, arith, inl, true≢false, length-set}
+use Rattle.rl_worker.proofs.States.{Rec, Void, Entry, Phase, Rest, Asking, Wanting, Loading, Locking, Validating, Storing, Refusing, State, Setting, decided}
+use Rattle.rl_worker.specs.Items.{Serial, Rising, Lawful, InLists}
+use Rattle.rl_worker.specs.Acts.{AllTrue, Core, no_rec, phase_of, micro, passing, resting, settle, begin, step, step_on, is_done, may, idle, Turn, Step, Idle, turn, run, target, moved, AllFree, AllRest, opening, Opens}
+use Rattle.rl_worker.proofs.Inv.{Inv, Knows}
 use Rattle.rl_worker.proofs.Keeps.{Keeps, knows_kept, final_kept}
 use Rattle.rl_worker.proofs.Local.{decided_lives}
 use Rattle.rl_worker.proofs.Acts.{by_test, test_lt}
-use Rattle.rl_worker.proofs.Serial.{items_from, items_idle, all_serial, items_rise}
-use Rattle.rl_worker.proofs.Lift.{Good, lift, micro_good, same_state}
+use Rattle.rl_worker.proofs.Serial.{items_idle, all_serial, items_rise}
+use Rattle.rl_worker.proofs.Lift.{Good, lift, micro_good}
 use Rattle.rl_worker.proofs.Installs.{none_some, both}
 use Rattle.rl_txn.specs.declared.write.End.TheVariants.{Done}
 use Rattle.rl_worker.proofs.Numbers.{Numbered, Latest, micro_numbered, idle_numbered, opening_numbered, in_lists}

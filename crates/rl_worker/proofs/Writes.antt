@@ -1,5 +1,5 @@
 -- What a transaction writes: each write is at a key that is there, with its table's columns, and no two are at one key.
-use Rattle.std.proofs.Common.{◌≡◌, ◌≢◌, ◌⊎◌, ℕ, zero, suc, ◌+◌, ◌-◌, ◌%◌, ◌^◌, ◌<◌, ◌≤◌, List, [], ◌∷◌, ◌++◌, length, map, slice_index, nat_lt, nat_le, ◌==◌, Bool, true, false, ◌&&◌, T, cond, if◌then◌else◌, Option, Some, None, refl, sym, ap, ◌∙◌, subst, arith, inl, inr, true≢false, All, is_some}
+use Rattle.std.proofs.Common.{◌≡◌, ◌≢◌, ℕ, zero, suc, ◌+◌, ◌<◌, List, [], ◌∷◌, length, map, slice_index, nat_lt, Bool, true, false, ◌&&◌, T, Option, Some, None, refl, sym, ap, ◌∙◌, subst, arith, inl, inr, All}
 use Rattle.std.proofs.lemmas.Bool.Decides.{nat_tests, eqb_tells}
 use Rattle.std.specs.Option.{option_map_or}
 use Rattle.std.specs.FinMap as finite
@@ -11,7 +11,7 @@ use Rattle.std.specs.declared.cmp.Ordering.TheVariants.{Less, Equal, Greater}
 use Rattle.rl_value.specs.Rows.{Rows, place_cmp}
 use Rattle.rl_value.specs.Tables.{Table, size_of, columns_of}
 use Rattle.rl_tables.specs.Numbers.{sizes_of, record_of, place_of}
-use Rattle.rl_txn.specs.Fits.{OpFits, OperandFits, TxnFits}
+use Rattle.rl_txn.specs.Fits.{OpFits, TxnFits}
 use Rattle.rl_txn.specs.Run.{Overlay, value_of, only_if, op_done, passes, ops_done, beginning, run, write_of, writes_of}
 use Rattle.rl_txn.specs.declared.op.Op.{Op}
 use Rattle.rl_txn.specs.declared.op.Op.TheVariants.{Set, Add, Sub, Mul, Get, Has, Put, Del, Scan, Need, Skip, Out}
@@ -20,7 +20,7 @@ use Rattle.rl_txn.specs.declared.write.Write.{Write}
 use Rattle.rl_txn.specs.declared.write.End.{End}
 use Rattle.rl_txn.specs.declared.write.End.TheVariants.{Done, Declined}
 use Rattle.rl_txn.proofs.RowSets.{places_total, same_place}
-use Rattle.rl_worker.specs.Phases.{Install, has}
+use Rattle.rl_worker.specs.Phases.{has}
 use Rattle.rl_worker.specs.Items.{Distinct}
 use Rattle.rl_worker.specs.Opening.{install_of}
 use Rattle.rl_worker.proofs.Places.{place_of_record}

@@ -1,6 +1,6 @@
 -- A serial history.
-use Rattle.std.specs.Prelude.{◌≡◌, ◌≢◌, ◌⊎◌, ℕ, zero, suc, ◌+◌, ◌<◌, ◌≤◌, List, [], ◌∷◌, ◌++◌, length, Bool, true, false, nat_lt, nat_le, ◌==◌, if◌then◌else◌, Option, Some, None}
-use Rattle.rl_worker.specs.Phases.{Answer, Read, Install, Rec, Outcome, Wants, Ends, Setting, has, row_at}
+use Rattle.std.specs.Prelude.{◌≡◌, ℕ, zero, suc, ◌<◌, ◌≤◌, List, [], ◌∷◌, length, false, nat_lt, nat_le, ◌==◌, if◌then◌else◌, Option, Some, None}
+use Rattle.rl_worker.specs.Phases.{Answer, Read, Install, Ends, Setting, has, row_at}
 
 -- a decided attempt
 pub record Item : Type 0 where

@@ -1,5 +1,5 @@
 -- Records, and the phases of an attempt: it reads, locks what it writes, draws a stamp, validates what it read, and installs (after Silo's commit protocol).
-use Rattle.std.specs.Prelude.{◌≡◌, ℕ, zero, suc, List, [], ◌∷◌, Bool, true, false, not, ◌==◌, nat_lt, if◌then◌else◌, Option, Some, None}
+use Rattle.std.specs.Prelude.{ℕ, List, [], ◌∷◌, Bool, true, false, not, ◌==◌, nat_lt, if◌then◌else◌, Option, Some, None}
 use Rattle.rl_txn.specs.declared.write.Reply.{Reply}
 use Rattle.rl_txn.specs.declared.write.Write.{Write}
 use Rattle.rl_worker.specs.declared.reads.Read as reads

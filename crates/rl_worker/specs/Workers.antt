@@ -1,6 +1,6 @@
 -- What a worker stands for among the phases, and what it keeps from step to step.
-use Rattle.std.specs.Prelude.{◌≡◌, ◌⊎◌, ℕ, zero, suc, ◌+◌, ◌*◌, ◌^◌, ◌<◌, ◌≤◌, List, [], ◌∷◌, ◌++◌, length, map, sum, get_or, take, drop, set, Bool, true, false, nat_lt, nat_le, ◌==◌, ◌&&◌, is_some, if◌then◌else◌, Option, Some, None, Result, Ok, Err, IfSome, IsSomeAnd, option_to_list, All}
-use Rattle.std.specs.Option.{option_map, option_map_or}
+use Rattle.std.specs.Prelude.{◌≡◌, ℕ, ◌+◌, ◌*◌, ◌^◌, ◌<◌, ◌≤◌, List, [], ◌∷◌, ◌++◌, length, map, sum, get_or, take, drop, set, Bool, true, false, nat_lt, nat_le, ◌==◌, ◌&&◌, is_some, if◌then◌else◌, Option, Some, None, Result, Ok, Err, IfSome, IsSomeAnd, option_to_list, All}
+use Rattle.std.specs.Option.{option_map}
 use Rattle.rl_base.specs.declared.refusal.Refusal.{Refusal}
 use Rattle.rl_base.specs.declared.refusal.Refusal.TheVariants as refusals
 use Rattle.rl_base.specs.Stamps.{packed}

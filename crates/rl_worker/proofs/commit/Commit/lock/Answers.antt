@@ -1,12 +1,11 @@
-use Rattle.std.proofs.Common.{◌≡◌, ◌<◌, ℕ, Some, None, length, get_or, sum, arith, ap, ◌∙◌, refl, subst, sym}
+use Rattle.std.proofs.Common.{◌≡◌, ◌<◌, Some, None, length, get_or, sum, arith, ap, ◌∙◌, subst, sym}
 use Rattle.rl_tables.specs.Numbers.{record_of}
 use Rattle.rl_base.specs.declared.refusal.Refusal.{Refusal}
 use Rattle.rl_worker.specs.declared.act.Act.TheVariants as act
-use Rattle.rl_worker.specs.declared.act.Moved as code
 use Rattle.rl_worker.specs.declared.commit.Commit.{Commit}
 use Rattle.rl_worker.specs.declared.words.Words.{Words}
 use Rattle.rl_worker.specs.Opening.{install_of}
-use Rattle.rl_worker.specs.Workers.{word, commit_phase, IsAct}
+use Rattle.rl_worker.specs.Workers.{commit_phase, IsAct}
 use Rattle.rl_worker.proofs.Commits.{found_is, locks, lock_refused}
 use Rattle.rl_worker.proofs.commit.Commit.lock.Goals as goal
 use Rattle.rl_worker.proofs.commit.Commit.lock.Goals.{in-None, in-Some}

@@ -1,4 +1,4 @@
-use Rattle.std.proofs.Common.{◌≡◌, ◌<◌, ◌≤◌, ◌+◌, ◌*◌, ℕ, Some, None, length, get_or, sum, arith, ap, ◌∙◌, refl, subst, sym}
+use Rattle.std.proofs.Common.{◌≡◌, ◌<◌, None, length, get_or, sum, arith, ap, ◌∙◌, refl, subst}
 use Rattle.rl_tables.specs.Numbers.{record_of}
 use Rattle.rl_worker.specs.declared.act.Act.TheVariants as act
 use Rattle.rl_worker.specs.Opening.{install_of}

@@ -1,8 +1,7 @@
-use Rattle.std.proofs.Common.{◌≡◌, ◌<◌, ◌≤◌, ◌+◌, ◌*◌, ℕ, Some, None, length, get_or, set, sum, arith, ap, ◌∙◌, refl, subst, sym}
+use Rattle.std.proofs.Common.{◌≡◌, ◌<◌, ◌≤◌, ◌*◌, None, length, get_or, set, sum, arith, ap, ◌∙◌, refl, subst, sym}
 use Rattle.rl_tables.specs.Numbers.{record_of}
 use Rattle.rl_value.specs.Tables.{columns_of}
 use Rattle.rl_worker.specs.declared.act.Act.TheVariants as act
-use Rattle.rl_worker.specs.declared.words.Record.{Record}
 use Rattle.rl_worker.specs.Opening.{install_of}
 use Rattle.rl_worker.specs.Workers.{WriteFits}
 use Rattle.rl_worker.proofs.Commits.{found_is, columns_fit, stores, closes}

@@ -1,9 +1,9 @@
-use Rattle.std.proofs.Common.{◌≡◌, ◌+◌, ◌<◌, ◌≤◌, ◌==◌, ◌∙◌, ap, sym, subst, length, is_some, All, true, false, arith, refl}
+use Rattle.std.proofs.Common.{◌≡◌, ◌<◌, ◌≤◌, ◌==◌, ◌∙◌, ap, sym, subst, length, All, true, arith}
 use Rattle.std.specs.FinMap as finite
 use Rattle.rl_tables.specs.Numbers.{sizes_of, place_of}
 use Rattle.rl_txn.specs.Eval.{is_new, known, awaited}
 use Rattle.rl_worker.specs.Opening.{overlay_of, row_of}
-use Rattle.rl_worker.specs.Workers.{found, ReadFits}
+use Rattle.rl_worker.specs.Workers.{ReadFits}
 use Rattle.rl_worker.proofs.Commits.{found_is}
 use Rattle.rl_worker.proofs.Readings.{overlay_with, all_with, no_conflict, confirms}
 use Rattle.rl_worker.proofs.reading.Reading.confirm.Goals as goal

@@ -1,4 +1,4 @@
-use Rattle.std.proofs.Common.{◌≡◌, ◌+◌, ◌≤◌, ◌∙◌, ap, length, nat_lt, arith, position, refl}
+use Rattle.std.proofs.Common.{◌≡◌, ◌+◌, ◌≤◌, ◌∙◌, ap, length, nat_lt, arith, position}
 use Rattle.std.specs.Option.{unwrap_or}
 use Rattle.rl_txn.proofs.RowSets.{ok_gives}
 use Rattle.rl_worker.specs.Phases.{with_read}

@@ -1,5 +1,4 @@
-use Rattle.std.proofs.Common.{◌≡◌, ◌∷◌, ◌++◌, [], ℕ, ◌<◌, ◌≤◌, ◌+◌, map, length, sum, refl, sym, ap, ◌∙◌, subst, None, arith}
-use Rattle.std.specs.List.{range_with_len}
+use Rattle.std.proofs.Common.{◌≡◌, ◌∷◌, ◌++◌, [], length, sum, refl, sym, ap, ◌∙◌, subst, None, arith}
 use Rattle.std.proofs.lemmas.List.FromFn.{length-map-range_with_len}
 use Rattle.rl_tables.specs.Numbers.{place_of, sizes_of}
 use Rattle.rl_worker.specs.declared.words.Record.{Record}

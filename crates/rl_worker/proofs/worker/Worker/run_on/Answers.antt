@@ -1,13 +1,10 @@
-use Rattle.std.proofs.Common.{◌≡◌, ◌+◌, ◌<◌, ◌≤◌, ◌^◌, ◌∙◌, ap, sym, subst, length, sum, All, arith, refl, slice_index}
+use Rattle.std.proofs.Common.{◌≡◌, ◌∙◌, ap, sym, subst, length, sum, All, arith}
 use Rattle.rl_tables.specs.Numbers.{sizes_of, place_of, record_of}
 use Rattle.rl_tables.proofs.Sizes.{size_at}
-use Rattle.rl_txn.specs.Run.{run}
 use Rattle.rl_txn.specs.Eval.{rows_of, wants, known, HasRows}
 use Rattle.rl_txn.proofs.Evals.{has_rows_of}
-use Rattle.rl_worker.specs.declared.commit.Part.TheVariants as part
-use Rattle.rl_worker.specs.Phases.{Answer}
 use Rattle.rl_worker.specs.Opening.{overlay_of}
-use Rattle.rl_worker.specs.Workers.{ReadFits, PartFits, HasMore, CommitFits}
+use Rattle.rl_worker.specs.Workers.{ReadFits, PartFits, HasMore}
 use Rattle.rl_worker.proofs.Places.{place_of_record}
 use Rattle.rl_worker.proofs.Settings.{sizes_length}
 use Rattle.rl_worker.proofs.Endings.{ended_phase, writes_fit}
