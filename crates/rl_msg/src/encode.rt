@@ -1,8 +1,9 @@
 //! Messages as bytes.
 
-ghost use Rattle.std.specs.Prelude.{◌≡◌, IfOk};
+ghost use Rattle.std.specs.Prelude.{◌≡◌, IfOk, Ok};
 ghost use Rattle.rl_msg.specs.Ranges.{MsgInRange};
 ghost use Rattle.rl_msg.specs.Spelling.{msg_bytes};
+ghost use Rattle.rl_msg.specs.Reading.{read_msg};
 
 use crate::head::push_head;
 use crate::log::{push_batch, push_log, push_place, push_streams};
@@ -18,6 +19,16 @@ use std::alloc::Global;
 /// length up to 4096, where a log has up to 4,096 batches of 1 to 262,144 bytes, and where a Promise has a ballot up to
 /// 2^20 - 1 and a log for each of 1 to 16 streams.
 pub fn encode_msg(alloc: Global, m: &Msg) -> Result<Bytes, Memory>
+    requires { MsgInRange m.now }
+    ensures spelled { IfOk result (λ bytes. bytes ≡ msg_bytes m.now) }
+    // Reading it gives the message again.
+    ensures read_back { IfOk result (λ bytes. read_msg bytes ≡ Ok m.now) }
+{
+    spell(alloc, m)
+}
+
+/// The bytes of a message.
+fn spell(alloc: Global, m: &Msg) -> Result<Bytes, Memory>
     requires { MsgInRange m.now }
     ensures { IfOk result (λ bytes. bytes ≡ msg_bytes m.now) }
 {
