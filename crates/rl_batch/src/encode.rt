@@ -1,8 +1,9 @@
 //! Batches as bytes.
 
-ghost use Rattle.std.specs.Prelude.{◌≡◌, ◌++◌, IfOk, OnOk};
-ghost use Rattle.rl_batch.specs.Ranges.{BatchInRange};
+ghost use Rattle.std.specs.Prelude.{◌≡◌, ◌++◌, IfOk, OnOk, Ok};
+ghost use Rattle.rl_batch.specs.Ranges.{BatchInRange, HasWords};
 ghost use Rattle.rl_batch.specs.Spelling.{mark_bytes, batch_bytes};
+ghost use Rattle.rl_batch.specs.Reading.{read_batch};
 
 use crate::item::push_items;
 use rl_base::list::Bytes;
@@ -21,7 +22,18 @@ use std::alloc::Global;
 /// are no writes.
 pub fn encode_batch(alloc: Global, b: &Batch) -> Result<Bytes, Memory>
     requires { BatchInRange b.now }
-    ensures { IfOk result (λ bytes. bytes ≡ batch_bytes b.now) }
+    ensures spelled { IfOk result (λ bytes. bytes ≡ batch_bytes b.now) }
+    // Reading it gives the batch again.
+    ensures read_back { IfOk result (λ bytes. read_batch bytes ≡ Ok b.now) }
+{
+    spell(alloc, b)
+}
+
+/// The bytes of a batch.
+fn spell(alloc: Global, b: &Batch) -> Result<Bytes, Memory>
+    requires { BatchInRange b.now }
+    ensures spelled { IfOk result (λ bytes. bytes ≡ batch_bytes b.now) }
+    ensures words { OnOk result (HasWords b.now) }
 {
     let mut out = Bytes::new(alloc);
     match b {
