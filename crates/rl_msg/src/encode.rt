@@ -16,8 +16,8 @@ use std::alloc::Global;
 /// The one spelling of a message.
 ///
 /// A message has one where its nodes are 1 to 7, its epoch 1 to 2^20 - 1, its streams 1 to 16, a slot up to 4095 and a
-/// length up to 4096, where a log has up to 4,096 batches of 1 to 262,144 bytes, and where a Promise has a ballot up to
-/// 2^20 - 1 and a log for each of 1 to 16 streams.
+/// length up to 4096, where each batch has 1 to 262,144 bytes and a log up to 4,096 batches, and where a Promise has a
+/// ballot up to 2^20 - 1 and a log for each of 1 to 16 streams.
 pub fn encode_msg(alloc: Global, m: &Msg) -> Result<Bytes, Memory>
     requires { MsgInRange m.now }
     ensures spelled { IfOk result (λ bytes. bytes ≡ msg_bytes m.now) }
