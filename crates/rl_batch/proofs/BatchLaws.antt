@@ -1,11 +1,12 @@
 -- Batches: what is read is spelled so and in range, and what is spelled so is read again.
 use Rattle.std.proofs.Common.{◌≡◌, ℕ, ◌-◌, ◌^◌, ◌<◌, Bool, true, false, cond, List, [], ◌∷◌, ◌++◌, Result, Ok, Err, refl, sym, ap, subst, ◌∙◌, arith, ◌⊎◌, inl, inr}
-use Rattle.std.specs.Prelude.{IfOk, ◌==◌}
+use Rattle.std.specs.Prelude.{IfOk, OnOk, ◌==◌}
 use Rattle.std.proofs.lemmas.Bool.{eqb-true}
 use Rattle.std.proofs.lemmas.List.{append-nil}
 use Rattle.byteorder.specs.Endian.{big_bytes}
 use Rattle.rl_base.specs.Numbers.{IsBytes}
 use Rattle.rl_base.specs.declared.flaw.Flaw.{Flaw}
+use Rattle.rl_base.specs.declared.memory.Memory.{Memory}
 use Rattle.rl_base.specs.declared.flaw.Flaw.TheVariants.{Kind}
 use Rattle.rl_base.specs.declared.stamp.Stamp.{Stamp}
 use Rattle.rl_txn.specs.declared.item.Item.{Item}
@@ -124,3 +125,7 @@ is_in_range bytes (Err e) fits said = tt
 
 pub reads_back : (b : Batch) → BatchInRange b → HasWords b → read_batch (batch_bytes b) ≡ Ok b
 reads_back b range words = ap (placed (batch_bytes b)) (whole_again b range words)
+
+pub spells_to_read : (answer : Result (List ℕ) Memory) (b : Batch) → BatchInRange b → OnOk answer (HasWords b) → IfOk answer (λ bytes. bytes ≡ batch_bytes b) → IfOk answer (λ bytes. read_batch bytes ≡ Ok b)
+spells_to_read (Ok bytes) b range words e = ap read_batch e ∙ reads_back b range words
+spells_to_read (Err e) b range words said = tt

@@ -31,9 +31,9 @@ pub fn decode_batch(alloc: Global, x: &[u8]) -> Result<Batch, BatchError>
     // A batch comes back only for its one spelling,
     ensures spelled { IfOk result (λ b. x.now ≡ batch_bytes b) }
     ensures in_range { IfOk result (λ b. BatchInRange b) }
-    // and for that it comes back, unless memory runs out.
-    ensures read_back { (b : Batch) → BatchInRange b → HasWords b → x.now ≡ batch_bytes b → Answers (Ok b) result }
-    // Which fault it is.
+    // and what spells a batch is read as that batch.
+    ensures read_back { (b : Batch) → BatchInRange b → HasWords b → x.now ≡ batch_bytes b → read_batch x.now ≡ Ok b }
+    // What is read comes back, the batch or its fault, unless memory runs out.
     ensures exact { Answers (read_batch x.now) result }
 {
     read(alloc, x)

@@ -1,8 +1,9 @@
 //! Batches as bytes.
 
-ghost use Rattle.std.specs.Prelude.{◌≡◌, ◌++◌, IfOk, OnOk};
-ghost use Rattle.rl_batch.specs.Ranges.{BatchInRange};
+ghost use Rattle.std.specs.Prelude.{◌≡◌, ◌++◌, IfOk, OnOk, Ok};
+ghost use Rattle.rl_batch.specs.Ranges.{BatchInRange, HasWords};
 ghost use Rattle.rl_batch.specs.Spelling.{mark_bytes, batch_bytes};
+ghost use Rattle.rl_batch.specs.Reading.{read_batch};
 
 use crate::item::push_items;
 use rl_base::list::Bytes;
@@ -14,12 +15,25 @@ use std::alloc::Global;
 
 /// The one spelling of a batch.
 ///
-/// A batch has one where it is 1 to 64 items of one epoch and one worker whose seqs rise, an idle mark or an open
-/// mark, with all numbers in their ranges: epochs 1 to 2^20 - 1, seqs 2 to 2^40 - 2 of items, 2 to 2^40 - 1 of idle
-/// marks and 1 of open marks.
+/// A batch has one where it is 1 to 64 items, an idle mark or an open mark, of epoch 1 to 2^20 - 1. An idle mark has seq
+/// 2 to 2^40 - 1, and an open mark seq 1. The items have one epoch, one worker 1 to 16, and rising seqs 2 to 2^40 - 2.
+/// Each has index 1 to 8192, at most 64 outs, and at most 64 writes by rising table and, within a table, rising key:
+/// tables 0 to 15, keys 0 to 65535, and a row of 1 to 4 columns or none. Where an op declined it is 1 to 64, and there
+/// are no writes.
 pub fn encode_batch(alloc: Global, b: &Batch) -> Result<Bytes, Memory>
     requires { BatchInRange b.now }
-    ensures { IfOk result (λ bytes. bytes ≡ batch_bytes b.now) }
+    ensures spelled { IfOk result (λ bytes. bytes ≡ batch_bytes b.now) }
+    // Reading it gives the batch again.
+    ensures read_back { IfOk result (λ bytes. read_batch bytes ≡ Ok b.now) }
+{
+    spell(alloc, b)
+}
+
+/// The bytes of a batch.
+fn spell(alloc: Global, b: &Batch) -> Result<Bytes, Memory>
+    requires { BatchInRange b.now }
+    ensures spelled { IfOk result (λ bytes. bytes ≡ batch_bytes b.now) }
+    ensures words { OnOk result (HasWords b.now) }
 {
     let mut out = Bytes::new(alloc);
     match b {

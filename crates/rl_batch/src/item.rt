@@ -3,7 +3,7 @@
 ghost use Rattle.std.specs.Prelude.{◌≡◌, ◌<◌, ◌≤◌, ◌++◌, ◌^◌, length, All, IfOk, OnOk};
 ghost use Rattle.rl_fields.specs.Answers.{Says, Gives};
 ghost use Rattle.rl_fields.specs.Fields.{series};
-ghost use Rattle.rl_batch.specs.Ranges.{EndInRange, ItemInRange, ItemsInRange, most_writes};
+ghost use Rattle.rl_batch.specs.Ranges.{EndInRange, ItemInRange, ItemsInRange, ItemHasWords, most_writes};
 ghost use Rattle.rl_batch.specs.Spelling.{end_number, item_bytes, items_bytes};
 ghost use Rattle.rl_batch.specs.Reading.{end_of, item, items, seq_after};
 
@@ -125,7 +125,8 @@ fn most_writes(end: End) -> u8
 /// Appends how many items there are, what they share, and each of them.
 pub fn push_items(out: &mut Bytes, items: &[Item]) -> Result<(), Memory>
     requires { ItemsInRange items.now }
-    ensures { OnOk result (out.new ≡ out.old ++ items_bytes items.now) }
+    ensures spelled { OnOk result (out.new ≡ out.old ++ items_bytes items.now) }
+    ensures words { OnOk result (All ItemHasWords items.now) }
 {
     let first = &items[0];
     push_u8(out, items.len() as u8)?;
@@ -140,7 +141,8 @@ pub fn push_items(out: &mut Bytes, items: &[Item]) -> Result<(), Memory>
 /// Appends an item.
 fn push_item(out: &mut Bytes, item: &Item) -> Result<(), Memory>
     requires { ItemInRange item.now }
-    ensures { OnOk result (out.new ≡ out.old ++ item_bytes item.now) }
+    ensures spelled { OnOk result (out.new ≡ out.old ++ item_bytes item.now) }
+    ensures words { OnOk result (ItemHasWords item.now) }
 {
     push_u64(out, item.stamp.seq)?;
     push_u32(out, item.index)?;

@@ -3,6 +3,7 @@
 ghost use Rattle.std.specs.Prelude.{◌≡◌, ◌≤◌, ◌++◌, length, take, OnOk};
 ghost use Rattle.rl_fields.specs.Answers.{Says, Gives};
 ghost use Rattle.rl_fields.specs.Fields.{number, several};
+ghost use Rattle.rl_batch.specs.Ranges.{AreWords};
 ghost use Rattle.rl_batch.specs.Spelling.{numbers_bytes, cells_of};
 ghost use Rattle.rl_batch.specs.Reading.{numbers, row, row_of};
 
@@ -79,7 +80,8 @@ fn cells_at(count: usize, bytes: &[u8]) -> Result<([u64; 4], &[u8]), Fault>
 /// Appends how many numbers there are, and each of them.
 pub fn push_numbers(out: &mut Bytes, numbers: &[u64]) -> Result<(), Memory>
     requires { length numbers.now ≤ 64 }
-    ensures { OnOk result (out.new ≡ out.old ++ numbers_bytes numbers.now) }
+    ensures spelled { OnOk result (out.new ≡ out.old ++ numbers_bytes numbers.now) }
+    ensures words { AreWords numbers.now }
 {
     push_u8(out, numbers.len() as u8)?;
     for number in numbers {

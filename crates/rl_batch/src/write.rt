@@ -3,7 +3,7 @@
 ghost use Rattle.std.specs.Prelude.{◌≡◌, ◌<◌, ◌≤◌, ◌++◌, length, All, IfOk, OnOk};
 ghost use Rattle.rl_fields.specs.Answers.{Says, Gives};
 ghost use Rattle.rl_fields.specs.Fields.{series};
-ghost use Rattle.rl_batch.specs.Ranges.{WriteInRange};
+ghost use Rattle.rl_batch.specs.Ranges.{WriteInRange, WriteHasWords};
 ghost use Rattle.rl_batch.specs.Spelling.{write_bytes, writes_bytes};
 ghost use Rattle.rl_batch.specs.Reading.{least_key, place_after, write, writes};
 
@@ -75,7 +75,8 @@ fn least_key(least: Place, table: u32) -> u32
 pub fn push_writes(out: &mut Bytes, writes: &[Write]) -> Result<(), Memory>
     requires few { length writes.now ≤ 64 }
     requires each { All WriteInRange writes.now }
-    ensures { OnOk result (out.new ≡ out.old ++ writes_bytes writes.now) }
+    ensures spelled { OnOk result (out.new ≡ out.old ++ writes_bytes writes.now) }
+    ensures words { OnOk result (All WriteHasWords writes.now) }
 {
     push_u8(out, writes.len() as u8)?;
     for write in writes {
@@ -87,7 +88,8 @@ pub fn push_writes(out: &mut Bytes, writes: &[Write]) -> Result<(), Memory>
 /// Appends a write.
 fn push_write(out: &mut Bytes, write: &Write) -> Result<(), Memory>
     requires { WriteInRange write.now }
-    ensures { OnOk result (out.new ≡ out.old ++ write_bytes write.now) }
+    ensures spelled { OnOk result (out.new ≡ out.old ++ write_bytes write.now) }
+    ensures words { OnOk result (WriteHasWords write.now) }
 {
     push_u8(out, write.table as u8)?;
     push_u32(out, write.key)?;

@@ -10,6 +10,7 @@ use Rattle.std.proofs.lemmas.Slice.Zip.{firsts-zip, seconds-zip, length-zip}
 use Rattle.byteorder.specs.Endian.{big_bytes}
 use Rattle.rl_base.specs.Numbers.{IsBytes}
 use Rattle.rl_base.specs.declared.flaw.Flaw.{Flaw}
+use Rattle.rl_base.specs.declared.memory.Memory.{Memory}
 use Rattle.rl_base.specs.declared.flaw.Flaw.TheVariants.{Kind}
 use Rattle.rl_fields.specs.declared.fault.Fault.{Fault}
 use Rattle.rl_fields.specs.Faults.{fault_at, placed}
@@ -396,3 +397,7 @@ is_in_range bytes (Err e) fits said = tt
 
 pub reads_back : (m : Msg) → MsgInRange m → read_msg (msg_bytes m) ≡ Ok m
 reads_back m range = ap (placed (msg_bytes m)) (whole_again m range)
+
+pub spells_to_read : (answer : Result (List ℕ) Memory) (m : Msg) → MsgInRange m → IfOk answer (λ bytes. bytes ≡ msg_bytes m) → IfOk answer (λ bytes. read_msg bytes ≡ Ok m)
+spells_to_read (Ok bytes) m range e = ap read_msg e ∙ reads_back m range
+spells_to_read (Err e) m range said = tt

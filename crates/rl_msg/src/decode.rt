@@ -24,7 +24,7 @@ const LAST_SLOT: u32 = 4095;
 /// The greatest length of a log.
 const MOST_BATCHES: u32 = 4096;
 
-/// The message that some bytes spell. Batches in it stay bytes, and may be any.
+/// The message that some bytes spell. Batches in it stay bytes, and each may be any 1 to 262,144 bytes.
 ///
 /// `Fault` exactly where they spell none: the first fault from left to right, and its place counted from 0. `Kind` is
 /// an unknown first byte; `Short` a field or a byte string that ends past the bytes, at its first byte; `Range` a field
@@ -33,9 +33,9 @@ pub fn decode_msg(alloc: Global, x: &[u8]) -> Result<Msg, MsgError>
     // A message comes back only for its one spelling,
     ensures spelled { IfOk result (λ m. x.now ≡ msg_bytes m) }
     ensures in_range { IfOk result (λ m. MsgInRange m) }
-    // and for that it comes back, unless memory runs out.
-    ensures read_back { (m : Msg) → MsgInRange m → x.now ≡ msg_bytes m → Answers (Ok m) result }
-    // Which fault it is.
+    // and what spells a message is read as that message.
+    ensures read_back { (m : Msg) → MsgInRange m → x.now ≡ msg_bytes m → read_msg x.now ≡ Ok m }
+    // What is read comes back, the message or its fault, unless memory runs out.
     ensures exact { Answers (read_msg x.now) result }
 {
     read(alloc, x)

@@ -1,8 +1,9 @@
 //! Messages as bytes.
 
-ghost use Rattle.std.specs.Prelude.{◌≡◌, IfOk};
+ghost use Rattle.std.specs.Prelude.{◌≡◌, IfOk, Ok};
 ghost use Rattle.rl_msg.specs.Ranges.{MsgInRange};
 ghost use Rattle.rl_msg.specs.Spelling.{msg_bytes};
+ghost use Rattle.rl_msg.specs.Reading.{read_msg};
 
 use crate::head::push_head;
 use crate::log::{push_batch, push_log, push_place, push_streams};
@@ -15,9 +16,19 @@ use std::alloc::Global;
 /// The one spelling of a message.
 ///
 /// A message has one where its nodes are 1 to 7, its epoch 1 to 2^20 - 1, its streams 1 to 16, a slot up to 4095 and a
-/// length up to 4096, where a log has up to 4,096 batches of 1 to 262,144 bytes, and where a Promise has a ballot up to
-/// 2^20 - 1 and a log for each of 1 to 16 streams.
+/// length up to 4096, where each batch has 1 to 262,144 bytes and a log up to 4,096 batches, and where a Promise has a
+/// ballot up to 2^20 - 1 and a log for each of 1 to 16 streams.
 pub fn encode_msg(alloc: Global, m: &Msg) -> Result<Bytes, Memory>
+    requires { MsgInRange m.now }
+    ensures spelled { IfOk result (λ bytes. bytes ≡ msg_bytes m.now) }
+    // Reading it gives the message again.
+    ensures read_back { IfOk result (λ bytes. read_msg bytes ≡ Ok m.now) }
+{
+    spell(alloc, m)
+}
+
+/// The bytes of a message.
+fn spell(alloc: Global, m: &Msg) -> Result<Bytes, Memory>
     requires { MsgInRange m.now }
     ensures { IfOk result (λ bytes. bytes ≡ msg_bytes m.now) }
 {

@@ -1,5 +1,4 @@
-use Rattle.std.proofs.Common.{ap, subst, ◌∙◌, arith}
-use Rattle.rl_batch.specs.Answers.{Answers}
+use Rattle.std.proofs.Common.{ap, ◌∙◌, arith}
 use Rattle.rl_batch.specs.Reading.{read_batch}
 use Rattle.rl_batch.proofs.BatchLaws.{is_spelled, is_in_range, reads_back}
 use Rattle.rl_batch.proofs.decode.decode_batch.Goals as goal
@@ -11,4 +10,4 @@ pub returns-clause-in_range : goal.returns-clause-in_range
 returns-clause-in_range c = is_in_range c.args.x.now c.read.result (λ i. omega (arith, c.type_inv.x i)) c.read.ensures
 
 pub returns-clause-read_back : goal.returns-clause-read_back
-returns-clause-read_back c = λ b range words e. subst (λ said. Answers said c.read.result) (ap read_batch e ∙ reads_back b range words) c.read.ensures
+returns-clause-read_back c = λ b range words e. ap read_batch e ∙ reads_back b range words
