@@ -1,8 +1,8 @@
 -- A run opens as its core does.
-use Rattle.std.proofs.Common.{◌≡◌, ℕ, zero, suc, ◌+◌, ◌*◌, ◌^◌, ◌<◌, ◌≤◌, List, [], ◌∷◌, length, map, get_or, slice_get, replicate, sum, sum_by, Option, Some, None, refl, sym, ap, ◌∙◌, subst, arith, Vec, String}
+use Rattle.std.proofs.Common.{◌≡◌, ℕ, zero, suc, ◌+◌, ◌*◌, ◌^◌, ◌<◌, List, [], ◌∷◌, length, map, get_or, slice_get, replicate, sum, Some, refl, sym, ap, ◌∙◌, arith, Vec, String}
 use Rattle.std.specs.Global.{Global}
 use Rattle.std.specs.String.{string_bytes}
-use Rattle.std.proofs.lemmas.List.{get_or-map, length-map, length-replicate, get_or-replicate}
+use Rattle.std.proofs.lemmas.List.{length-map, length-replicate}
 use Rattle.std.proofs.lemmas.List.Sums.{sum_by-cons}
 use Rattle.rl_value.specs.Tables.{Table, record_count}
 use Rattle.rl_tables.specs.Numbers.{sizes_of}
@@ -11,10 +11,9 @@ use Rattle.rl_script.specs.Fits.{ScriptFits}
 use Rattle.rl_script.specs.declared.script.Script.{Script}
 use Rattle.rl_worker.specs.declared.words.Words.{Words}
 use Rattle.rl_worker.specs.declared.worker.Worker.{Worker}
-use Rattle.rl_worker.specs.Phases.{Phase, Rest}
+use Rattle.rl_worker.specs.Phases.{Rest}
 use Rattle.rl_worker.specs.Opening.{opening_recs}
 use Rattle.rl_worker.specs.Workers.{RecordsFit, number_of, stamp_next}
-use Rattle.rl_app.specs.declared.run.Run.{Run}
 use Rattle.rl_app.specs.Runs.{IsFresh, IsByStamp, IsRun, core_with}
 
 counted : (tables : List Table) → sum (sizes_of tables) ≡ record_count tables

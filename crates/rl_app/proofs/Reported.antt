@@ -1,5 +1,5 @@
 -- The report of the steps of a script.
-use Rattle.std.proofs.Common.{◌≡◌, ◌≢◌, ℕ, zero, suc, ◌+◌, ◌-◌, ◌*◌, ◌^◌, ◌<◌, ◌≤◌, List, [], ◌∷◌, ◌++◌, ◌==◌, length, map, filter, get_or, slice_get, slice_index, take, reverse, replicate, codes, Bool, true, false, if◌then◌else◌, Option, Some, None, IsSomeAnd, refl, sym, ap, ◌∙◌, subst, arith, inl, inr, ◌⊎◌}
+use Rattle.std.proofs.Common.{◌≡◌, ℕ, zero, suc, ◌+◌, ◌-◌, ◌*◌, ◌^◌, ◌<◌, ◌≤◌, List, [], ◌∷◌, ◌++◌, length, map, get_or, slice_get, slice_index, take, reverse, replicate, codes, None, IsSomeAnd, refl, sym, ap, ◌∙◌, subst, arith, inl, inr}
 use Rattle.std.specs.List.{flat_map, range_with_len}
 use Rattle.std.specs.Option.{option_and_then}
 use Rattle.std.proofs.lemmas.Bool.{cases_lt}
@@ -8,7 +8,7 @@ use Rattle.std.proofs.lemmas.List.{take_more}
 use Rattle.rl_base.specs.Stamps.{packed}
 use Rattle.rl_value.specs.Rows.{Rows}
 use Rattle.rl_value.specs.Tables.{Table, IsSchema, record_count}
-use Rattle.rl_txn.specs.Serial.{after, after_writes, numbered, request_of, Runs, IsSerial, indexes_of, IsInLists}
+use Rattle.rl_txn.specs.Serial.{after, after_writes, numbered, request_of, Runs, indexes_of, IsInLists}
 use Rattle.rl_txn.specs.Run.{run}
 use Rattle.rl_txn.specs.declared.op.Op.{Op}
 use Rattle.rl_txn.specs.declared.item.Item.{Item}
@@ -16,7 +16,7 @@ use Rattle.rl_script.specs.Fits.{ScriptFits}
 use Rattle.rl_script.specs.declared.script.Script.{Script}
 use Rattle.rl_worker.specs.Opening.{items_of, first_of, CoreFits}
 use Rattle.rl_worker.specs.Workers.{core_item}
-use Rattle.rl_app.specs.Runs.{AllFrom, IsByStamp, IsRun, core_of}
+use Rattle.rl_app.specs.Runs.{IsByStamp, IsRun, core_of}
 use Rattle.rl_app.specs.declared.run.Run.{Run}
 use Rattle.std.specs.String.{string_bytes}
 use Rattle.rl_app.specs.Texts.{refusal_text, run_text, steps_text}

@@ -1,5 +1,4 @@
-use Rattle.std.proofs.Common.{◌≡◌, [], subst, sym, ap, ◌∙◌, map}
-use Rattle.rl_txn.specs.declared.item.Item.{Item}
+use Rattle.std.proofs.Common.{[], subst, sym, ap, ◌∙◌, map}
 use Rattle.rl_worker.specs.Workers.{core_item}
 use Rattle.rl_app.specs.Runs.{IsByStamp}
 use Rattle.rl_app.proofs.Runs.{joins}

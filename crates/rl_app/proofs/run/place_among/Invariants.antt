@@ -1,4 +1,4 @@
-use Rattle.std.proofs.Common.{◌≡◌, ◌<◌, ◌≤◌, ℕ, length, get_or}
+use Rattle.std.proofs.Common.{◌<◌, ◌≤◌, ℕ, length, get_or}
 use Rattle.rl_txn.specs.declared.item.Item.{Item}
 use Rattle.rl_app.proofs.run.place_among.Given as goal
 

@@ -1,4 +1,4 @@
-use Rattle.std.proofs.Common.{◌≡◌, ◌+◌, ◌<◌, ◌≤◌, ◌^◌, ℕ, Some, length, slice_get, subst, sym, ap, ◌∙◌, arith}
+use Rattle.std.proofs.Common.{◌≡◌, ℕ, Some, length, slice_get, subst, sym, arith}
 use Rattle.rl_worker.specs.declared.worker.Worker.{Worker}
 use Rattle.rl_app.specs.Runs.{IsFresh}
 use Rattle.rl_app.proofs.Runs.{pushed}

@@ -1,5 +1,5 @@
-use Rattle.std.proofs.Common.{◌≡◌, ◌<◌, ◌∙◌, ap, sym, length, get_or, subst}
-use Rattle.rl_txn.specs.Serial.{after, after_writes}
+use Rattle.std.proofs.Common.{◌≡◌, ◌<◌, ◌∙◌, ap, sym, length, get_or}
+use Rattle.rl_txn.specs.Serial.{after_writes}
 use Rattle.rl_app.proofs.Reported.{after_more}
 use Rattle.rl_app.proofs.steps.apply_all.Goals as goal
 

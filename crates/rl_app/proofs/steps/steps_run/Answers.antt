@@ -1,4 +1,4 @@
-use Rattle.std.proofs.Common.{◌≡◌, ◌∙◌, ◌++◌, ap, sym, replicate, codes}
+use Rattle.std.proofs.Common.{◌∙◌, ◌++◌, ap, replicate, codes}
 use Rattle.std.specs.String.{string_bytes}
 use Rattle.rl_value.specs.Tables.{record_count}
 use Rattle.rl_txn.specs.Serial.{IsSerial}

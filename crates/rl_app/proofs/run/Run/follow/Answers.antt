@@ -1,7 +1,5 @@
-use Rattle.std.proofs.Common.{◌≡◌, ◌+◌, ◌<◌, ◌++◌, subst, sym, ap, ◌∙◌, get_or, length, replicate, take, arith}
-use Rattle.std.proofs.lemmas.List.{get_or_default}
+use Rattle.std.proofs.Common.{◌<◌, subst, sym, get_or, length, replicate, take}
 use Rattle.rl_value.specs.Tables.{record_count}
-use Rattle.rl_events.specs.declared.event.Event.{Event}
 use Rattle.rl_events.specs.declared.event.Event.TheVariants as event
 use Rattle.rl_events.specs.Fits.{EventFits}
 use Rattle.rl_worker.specs.Acts.{run}

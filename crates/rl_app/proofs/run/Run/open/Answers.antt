@@ -1,6 +1,6 @@
 use Rattle.rl_app.proofs.Opened.{opened}
 use Rattle.rl_app.proofs.run.Run.open.Goals as goal
-use Rattle.std.proofs.Common.{◌≡◌, ◌∙◌, ap, sym, replicate, sum}
+use Rattle.std.proofs.Common.{◌∙◌, ap, replicate, sum}
 
 pub returns : goal.returns
 returns c =

@@ -1,14 +1,12 @@
-use Rattle.std.proofs.Common.{◌≡◌, ◌≤◌, ◌<◌, ◌-◌, ◌^◌, [], subst, sym, ap, ◌∙◌, get_or, is_some, IfSome, length, map, ◌++◌, arith, refl, Option, if◌then◌else◌, None}
+use Rattle.std.proofs.Common.{◌≡◌, ◌<◌, ◌-◌, [], subst, sym, ap, ◌∙◌, IfSome, length, map, ◌++◌, arith, refl}
 use Rattle.std.specs.FinMap as finite
 use Rattle.std.specs.Option.{option_copied, option_map}
 use Rattle.std.specs.Option.{option_map_or}
 use Rattle.std.specs.String.{string_bytes}
 use Rattle.std.specs.Vec.{with_item}
 use Rattle.std.proofs.lemmas.List.{get_or_default, get_or-set_same}
-use Rattle.rl_txn.specs.declared.item.Item.{Item}
-use Rattle.rl_worker.specs.declared.worker.Worker.{Worker}
 use Rattle.rl_worker.specs.Acts as acts
-use Rattle.rl_worker.specs.Workers.{Steps, newly_decided, decided_item, epoch_of, number_of, next_of, either, core_item, joined}
+use Rattle.rl_worker.specs.Workers.{Steps, newly_decided, decided_item, epoch_of, number_of, next_of, core_item, joined}
 use Rattle.rl_worker.specs.Opening.{setting_of}
 use Rattle.rl_app.specs.Runs.{IsRun}
 use Rattle.rl_app.specs.Texts.{refused_text}

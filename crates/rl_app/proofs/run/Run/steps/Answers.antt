@@ -1,4 +1,4 @@
-use Rattle.std.proofs.Common.{◌≡◌, ◌+◌, ◌≤◌, [], subst, sym, ap, ◌∙◌, replicate, arith}
+use Rattle.std.proofs.Common.{◌≡◌, [], subst, sym, replicate, arith}
 use Rattle.std.specs.FinMap as finite
 use Rattle.rl_worker.specs.Acts.{Step, run}
 use Rattle.rl_worker.specs.Opening.{setting_of}
