@@ -1,12 +1,8 @@
 #!/usr/bin/env bash
-# Instructions of `rolis steps` for 1,000 to 16,000 steps of two workers on 64 accounts, and for each step.
-# Repeatable: it counts instructions (valgrind's callgrind, or perf), and measures no time.
+# Instructions of `rolis steps` for 1,000 to 16,000 steps of two workers on 64 accounts, and for each step. Repeatable.
 # `steps.sh --script STEPS` prints the script of so many steps, and counts nothing.
 set -u
-top=$(cd "$(dirname "$0")/.." && pwd)
-binary=$top/crates/rl_cli/out/rl_cli
-work=$(mktemp -d)
-trap 'rm -rf "$work"' EXIT
+. "$(dirname "$0")/count.sh"
 
 # A transfer takes 19 steps, so there is a request left for every step. The workers take turns of at most 5 steps.
 script() {
@@ -28,36 +24,8 @@ script() {
   }'
 }
 
-count() {
-  if command -v valgrind >/dev/null 2>&1; then
-    valgrind --tool=callgrind --callgrind-out-file="$work/out" "$binary" steps <"$work/in" 2>&1 >/dev/null |
-      sed -n 's/.*Collected : *\([0-9]*\).*/\1/p'
-  elif perf stat -e instructions:u true >/dev/null 2>&1; then
-    perf stat -x, -e instructions:u -o "$work/perf" "$binary" steps <"$work/in" >/dev/null && awk -F, '/instructions/ { print $1 }' "$work/perf"
-  fi
-}
-
 if [ "${1:-}" = --script ]; then
   script "${2:-1000}"
-  exit 0
+else
+  table steps steps step 1000 2000 4000 8000 16000
 fi
-if [ ! -x "$binary" ]; then
-  echo "bench: build the program first: ./rolis serial < examples/two_transfers.rolis" >&2
-  exit 1
-fi
-script 1000 >"$work/in"
-if ! "$binary" steps <"$work/in" >"$work/told"; then
-  echo "bench: 'rolis steps' did not run: $(head -n 1 "$work/told")" >&2
-  exit 1
-fi
-if ! command -v valgrind >/dev/null 2>&1 && ! perf stat -e instructions:u true >/dev/null 2>&1; then
-  echo "bench: skipped, since neither valgrind nor perf counts instructions here" >&2
-  exit 0
-fi
-echo "| steps | instructions | for each step |"
-echo "|---|---|---|"
-for steps in 1000 2000 4000 8000 16000; do
-  script "$steps" >"$work/in"
-  instructions=$(count)
-  echo "| $steps | $instructions | $((instructions / steps)) |"
-done
