@@ -1,15 +1,15 @@
 -- What a transaction may name: tables and columns that are there, registers, and counts in range.
-use Rattle.std.specs.Prelude.{◌≡◌, ◌<◌, ◌≤◌, List, length, All, sum_by}
+use Rattle.std.specs.Prelude.{◌≡◌, ◌^◌, ◌<◌, ◌≤◌, List, length, All, sum_by}
 use Rattle.rl_value.specs.Tables.{Table, columns_of}
 use Rattle.rl_txn.specs.declared.op.Operand.{Operand}
 use Rattle.rl_txn.specs.declared.op.Operand.TheVariants.{Reg, Num}
 use Rattle.rl_txn.specs.declared.op.Op.{Op}
 use Rattle.rl_txn.specs.declared.op.Op.TheVariants.{Set, Add, Sub, Mul, Get, Has, Put, Del, Scan, Need, Skip, Out}
 
--- a register is one of 16
+-- a register is one of 16, and a number has 64 bits
 abbrev pub OperandFits : Operand → Type 0
 OperandFits (Reg r) = r < 16
-OperandFits (Num n) = Unit {0}
+OperandFits (Num n) = n < 2 ^ 64
 
 abbrev pub OpFits : List Table → Op → Type 0
 OpFits tables (Set d a) = (d < 16) × OperandFits a

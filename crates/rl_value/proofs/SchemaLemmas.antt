@@ -1,5 +1,5 @@
 -- Tables that are kept as entries under their names.
-use Rattle.std.proofs.Common.{◌≢◌, ◌<◌, ◌≤◌, length, slice_get, subst, inl, inr, arith, length-append, All, ◌≡◌, ℕ, ◌+◌, List, [], ◌∷◌, ◌++◌, map, Bool, true, false, cond, position, Some, None, String, Global, refl, ap, sym, ◌∙◌}
+use Rattle.std.proofs.Common.{◌≢◌, ◌<◌, ◌≤◌, length, slice_get, subst, inl, inr, arith, length-append, All, ◌≡◌, ℕ, ◌+◌, List, [], ◌∷◌, ◌++◌, map, Bool, true, false, cond, position, Some, None, String, Global, zero, suc, refl, ap, sym, ◌∙◌}
 use Rattle.std.specs.List.{position_from}
 use Rattle.std.specs.Map.{lookup}
 use Rattle.std.specs.HashMap.{HashMap}
@@ -10,13 +10,14 @@ use Rattle.std.proofs.lemmas.List.{map-append}
 use Rattle.std.proofs.lemmas.List.Elements.{All-push}
 use Rattle.std.proofs.lemmas.List.Sums.{sum_by_push}
 use Rattle.std.proofs.lemmas.Option.{slice_get-map, slice_get_cases}
-use Rattle.std.specs.Option.{option_map}
+use Rattle.std.specs.Option.{option_map, option_map_or}
 use Rattle.indexmap.specs.IndexMap.{insert_entry}
 use Rattle.indexmap.proofs.CallerLemmas.{insert_entry-new}
 use Rattle.rl_value.specs.declared.schema.Shape.{Shape}
+use Rattle.std.proofs.lemmas.Bool.{cases_lt}
 use Rattle.std.proofs.lemmas.Bool.Decides.{nat_tests}
 use Rattle.rl_value.specs.Declare.{refusal}
-use Rattle.rl_value.specs.Tables.{Table, IsTable, IsSchema, table_named, record_count, tables_of}
+use Rattle.rl_value.specs.Tables.{Table, IsTable, IsSchema, HaveNamesOfTheirOwn, name_of, table_named, record_count, tables_of}
 
 abbrev pub Entry : Type 0
 Entry = String Global × Shape
@@ -54,9 +55,51 @@ table_at entries t e at all =
       | inr (past, none) ↦ cc
     ]
 
+-- one more table leaves the place of one that was found before, and is found itself where its name is new
+found_before : (p : Table → Bool) (i k : ℕ) (tables : List Table) (x : Table) → position_from p i tables ≡ Some k → position_from p i (tables ++ x ∷ []) ≡ Some k
+found_before p i k [] x h = cc
+found_before p i k (t ∷ tables) x h =
+    elim (p t) as (λ b. cond b (Some i) (position_from p (i + 1) tables) ≡ Some k → cond b (Some i) (position_from p (i + 1) (tables ++ x ∷ [])) ≡ Some k) [
+      | true ↦ λ h. h
+      | false ↦ λ h. found_before p (i + 1) k tables x h
+    ] h
+
+found_last : (p : Table → Bool) (i : ℕ) (tables : List Table) (x : Table) → position_from p i tables ≡ None → p x ≡ true → position_from p i (tables ++ x ∷ []) ≡ Some (i + length tables)
+found_last p i [] x h is = ap (λ b. cond b (Some i) None) is ∙ ap Some (omega arith)
+found_last p i (t ∷ tables) x h is =
+    elim (p t) as (λ b. cond b (Some i) (position_from p (i + 1) tables) ≡ None → cond b (Some i) (position_from p (i + 1) (tables ++ x ∷ [])) ≡ Some (i + suc (length tables))) [
+      | true ↦ λ h. cc
+      | false ↦ λ h. found_last p (i + 1) tables x h is ∙ ap Some (omega arith)
+    ] h
+
+at_before : (tables : List Table) (x : Table) (t : ℕ) → t < length tables → slice_get (tables ++ x ∷ []) t ≡ slice_get tables t
+at_before [] x t within = absurd (omega arith)
+at_before (y ∷ tables) x zero within = refl
+at_before (y ∷ tables) x (suc t) within = at_before tables x t (omega arith)
+
+at_last : (tables : List Table) (x : Table) → slice_get (tables ++ x ∷ []) (length tables) ≡ Some x
+at_last [] x = refl
+at_last (y ∷ tables) x = at_last tables x
+
+same_bytes : (name : List ℕ) → bytes_eq name name ≡ true
+same_bytes [] = refl
+same_bytes (b ∷ name) = grind (arith, nat_tests, same_bytes name)
+
+names_push : (tables : List Table) (x : Table) → HaveNamesOfTheirOwn tables → table_named x.name tables ≡ None → HaveNamesOfTheirOwn (tables ++ x ∷ [])
+names_push tables x own new t within = elim (cases_lt t (length tables)) [
+  | inl before ↦
+      let name : name_of (tables ++ x ∷ []) t ≡ name_of tables t = ap (λ o. option_map_or (λ table. table.name) o []) (at_before tables x t before) in
+      rw name (found_before (λ t'. bytes_eq (name_of tables t) t'.name) 0 t tables x (own t before))
+  | inr not_before ↦
+      let last : t ≡ length tables = omega (arith, length-append tables (x ∷ [])) in
+      let name : name_of (tables ++ x ∷ []) t ≡ x.name = ap (λ n. name_of (tables ++ x ∷ []) n) last ∙ ap (λ o. option_map_or (λ table. table.name) o []) (at_last tables x) in
+      rw (name, last) (found_last (λ t'. bytes_eq x.name t'.name) 0 tables x new (same_bytes x.name) ∙ ap Some (omega arith))
+]
+
 -- one more table within the limits
-pub schema_push : (tables : List Table) (t : Table) → IsSchema tables → IsTable t → length tables < 16 → record_count tables + t.size ≤ 65536 → IsSchema (tables ++ t ∷ [])
-schema_push tables t ok one few fits = record {
+pub schema_push : (tables : List Table) (t : Table) → IsSchema tables → IsTable t → table_named t.name tables ≡ None → length tables < 16 → record_count tables + t.size ≤ 65536 → IsSchema (tables ++ t ∷ [])
+schema_push tables t ok one new few fits = record {
+  names = names_push tables t ok.names new;
   few = omega (arith, length-append tables (t ∷ []));
   records = omega (arith, sum_by_push (λ t. t.size) tables t);
   each = All-push IsTable tables t ok.each one;
@@ -94,4 +137,4 @@ declared_tables m k name size columns records new named ok free table is =
     let few : length tables < 16 = omega (arith, ok.0.few, room.few) in
     let more : tables_of new ≡ tables ++ t ∷ [] = ap tables_of is ∙ tables_push m k name size columns named free in
     let count : record_count (tables ++ t ∷ []) ≡ record_count tables + size = sum_by_push (λ t. t.size) tables t in
-    (subst IsSchema (sym more) (schema_push tables t ok.0 table few room.records), ap (λ n. n + size) ok.1 ∙ sym count ∙ sym (ap record_count more))
+    (subst IsSchema (sym more) (schema_push tables t ok.0 table room.new few room.records), ap (λ n. n + size) ok.1 ∙ sym count ∙ sym (ap record_count more))

@@ -1,5 +1,5 @@
 -- Tables as they were declared.
-use Rattle.std.specs.Prelude.{◌≡◌, ℕ, ◌≤◌, List, [], Option, length, map, slice_get, sum_by, true, All, String}
+use Rattle.std.specs.Prelude.{◌≡◌, ℕ, ◌<◌, ◌≤◌, List, [], Option, Some, length, map, slice_get, sum_by, true, All, String}
 use Rattle.std.specs.Option.{option_map_or}
 use Rattle.std.specs.Str.{bytes_eq}
 use Rattle.std.specs.Global.{Global}
@@ -40,8 +40,13 @@ pub record IsTable (t : Table) : Type 0 where
   pub some_columns : 1 ≤ t.columns
   pub few_columns : t.columns ≤ 4
 
--- the tables keep the limits of each and of all together
+-- no table has the name of one before it, so that each is found by its own
+abbrev pub HaveNamesOfTheirOwn : List Table → Type 0
+HaveNamesOfTheirOwn tables = (t : ℕ) → t < length tables → table_named (name_of tables t) tables ≡ Some t
+
+-- the tables have names of their own, and keep the limits of each and of all together
 pub record IsSchema (tables : List Table) : Type 0 where
+  pub names : HaveNamesOfTheirOwn tables
   pub few : length tables ≤ 16
   pub records : record_count tables ≤ 65536
   pub each : All IsTable tables
