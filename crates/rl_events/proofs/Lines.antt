@@ -6,7 +6,7 @@ use Rattle.std.proofs.lemmas.List.Splits.{slice_split_first, slice_split_none, l
 use Rattle.std.proofs.lemmas.Bool.Decides.{nat_tests}
 use Rattle.rl_events.specs.Text.{lines_of, lines_of_pieces}
 
-more : (line : List ℕ) (pieces : List (List ℕ)) → 0 < length pieces → lines_of_pieces (line ∷ pieces) ≡ line ∷ lines_of_pieces pieces
+pub more : (line : List ℕ) (pieces : List (List ℕ)) → 0 < length pieces → lines_of_pieces (line ∷ pieces) ≡ line ∷ lines_of_pieces pieces
 more line [] h = absurd (omega arith)
 more line (next ∷ pieces) h = refl
 

@@ -34,6 +34,7 @@ place nodes workers n w = do
   w ← within 1 workers w
   Ok (n, w)
 
+-- these two words and no more
 abbrev pub place_in : ℕ → ℕ → List (List ℕ) → Result (ℕ × ℕ) Kind
 place_in nodes workers (n ∷ w ∷ []) = place nodes workers n w
 place_in nodes workers words = Err Count
@@ -45,15 +46,17 @@ step nodes workers n w k = do
   k ← within 1 100000 k
   Ok (event.Step at.0 at.1 k)
 
+-- these three words and no more
 abbrev pub step_in : ℕ → ℕ → List (List ℕ) → Result Event Kind
 step_in nodes workers (n ∷ w ∷ k ∷ []) = step nodes workers n w k
 step_in nodes workers words = Err Count
 
--- `dlv K` and `drop K`
+-- `dlv K`, K at least 1
 abbrev pub dlv_in : List (List ℕ) → Result Event Kind
 dlv_in (k ∷ []) = positive k >>= λ k. Ok (event.Dlv k)
 dlv_in words = Err Count
 
+-- `drop K`
 abbrev pub discard_in : List (List ℕ) → Result Event Kind
 discard_in (k ∷ []) = number k >>= λ k. Ok (event.Discard k)
 discard_in words = Err Count
@@ -70,6 +73,7 @@ random seed k = do
   k ← within 1 100000 k
   Ok (event.Random seed k)
 
+-- these two words and no more
 abbrev pub random_in : List (List ℕ) → Result Event Kind
 random_in (seed ∷ k ∷ []) = random seed k
 random_in words = Err Count

@@ -1,4 +1,6 @@
 pub mod Events
+pub mod Expanded
 pub mod Fits
+pub mod Printed
 pub mod Text
 pub mod Words

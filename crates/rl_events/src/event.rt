@@ -8,17 +8,17 @@ use rl_base::list::Seq;
 /// One event. Nodes, workers and streams are counted from 1.
 #[derive(Clone, Copy, Debug, PartialEq, Eq)]
 pub enum Event {
-    /// Some steps of a worker at a node.
+    /// Some steps of a worker at a node, 1 to 100,000.
     Step { node: u32, worker: u32, count: u32 },
     /// A worker proposes what it has pending.
     Flush { node: u32, worker: u32 },
     /// A worker that rests proposes an idle mark.
     Idle { node: u32, worker: u32 },
-    /// A message is delivered.
+    /// A message is delivered, counted from 1.
     Dlv { number: u64 },
-    /// A message is passed over from now on: the line `drop`.
+    /// A message is passed over from now on: the line `drop`. Any number.
     Discard { number: u64 },
-    /// Each message that was never delivered nor passed over is delivered.
+    /// Each message that was sent before and never delivered nor passed over is delivered.
     All,
     /// A node stands for its next epoch.
     Elect { node: u32 },
@@ -36,9 +36,12 @@ pub enum Event {
     PlayAll { node: u32 },
     /// What a node holds is reported.
     Show { node: u32 },
-    /// Some events that a seed draws.
+    /// Some events that a seed draws, 1 to 100,000.
     Random { seed: u64, count: u32 },
 }
+
+/// How many events a script may have, as they count.
+pub const MOST_EVENTS: u32 = 100000;
 
 /// The events of a script.
 pub type Events = Seq<Event>;

@@ -2,8 +2,10 @@
 #![tactic(auto)]
 
 pub mod event;
+pub mod expand;
 pub mod kind;
 pub mod line;
+pub mod printed;
 #[cfg(test)]
 mod tests;
 pub mod text;

@@ -13,20 +13,35 @@ use thiserror::Error;
 /// Which event a line is.
 #[derive(Clone, Copy, Debug, PartialEq, Eq)]
 pub enum EventWord {
+    /// `step`
     Step,
+    /// `flush`
     Flush,
+    /// `idle`
     Idle,
+    /// `dlv`
     Dlv,
+    /// `drop`
     Discard,
+    /// `all`
     All,
+    /// `elect`
     Elect,
+    /// `tick`
     Tick,
+    /// `crash`
     Crash,
+    /// `back`
     Back,
+    /// `lose`
     Lose,
+    /// `play`
     Play,
+    /// `playall`
     PlayAll,
+    /// `show`
     Show,
+    /// `random`
     Random,
 }
 
@@ -34,6 +49,7 @@ pub enum EventWord {
 #[derive(Clone, Copy, Debug, PartialEq, Eq, Error)]
 #[error("{kind:?}")]
 pub struct EventFault {
+    /// The rule that is broken.
     pub kind: Kind,
 }
 

@@ -1,0 +1,136 @@
+-- The line of an event is read as the event again.
+use Rattle.std.proofs.Common.{◌≡◌, ℕ, ◌^◌, ◌<◌, ◌≤◌, List, [], ◌∷◌, All, Ok, Err, codes, refl, ap, sym, ◌∙◌, arith, if◌then◌else◌}
+use Rattle.std.specs.Fmt.{decimal}
+use Rattle.std.proofs.lemmas.List.Elements.{All-nil, All-cons}
+use Rattle.rl_events.specs.declared.event.Event.{Event}
+use Rattle.rl_events.specs.declared.event.Event.TheVariants as event
+use Rattle.rl_events.specs.declared.kind.Kind.TheVariants.{Byte}
+use Rattle.rl_events.specs.Events.{event_in, event_of, place, random, step}
+use Rattle.rl_events.specs.Fits.{EventFits, IsOneOf}
+use Rattle.rl_events.specs.Printed.{event_line, event_words, line_of}
+use Rattle.rl_events.specs.Text.{words_of}
+use Rattle.rl_events.specs.Words.{◌>>=◌, within}
+use Rattle.rl_events.proofs.PrintedLemmas.{IsWord, decimal_is_word, number_decimal, positive_decimal, printable_line, within_decimal, words_of_line}
+
+-- a printed line is judged by its words
+pub judged_by_words : (nodes workers : ℕ) (words : List (List ℕ)) → All IsWord words → event_in nodes workers (line_of words) ≡ event_of nodes workers words
+judged_by_words nodes workers words all =
+    ap (λ b. if b then event_of nodes workers (words_of (line_of words)) else Err Byte) (printable_line words all) ∙ ap (event_of nodes workers) (words_of_line words all)
+
+pub one_number : (word : List ℕ) (n : ℕ) → IsWord word → n < 2 ^ 64 → All IsWord (word ∷ decimal n ∷ [])
+one_number word n is small = All-cons IsWord word (decimal n ∷ []) is (All-cons IsWord (decimal n) [] (decimal_is_word n small) (All-nil IsWord))
+
+pub two_numbers : (word : List ℕ) (n m : ℕ) → IsWord word → n < 2 ^ 64 → m < 2 ^ 64 → All IsWord (word ∷ decimal n ∷ decimal m ∷ [])
+two_numbers word n m is small next = All-cons IsWord word (decimal n ∷ decimal m ∷ []) is (one_number (decimal n) m (decimal_is_word n small) next)
+
+pub three_numbers : (word : List ℕ) (n m k : ℕ) → IsWord word → n < 2 ^ 64 → m < 2 ^ 64 → k < 2 ^ 64 → All IsWord (word ∷ decimal n ∷ decimal m ∷ decimal k ∷ [])
+three_numbers word n m k is small next last = All-cons IsWord word (decimal n ∷ decimal m ∷ decimal k ∷ []) is (two_numbers (decimal n) m k (decimal_is_word n small) next last)
+
+node_back : (nodes n : ℕ) → IsOneOf nodes n → n < 2 ^ 64 → within 1 nodes (decimal n) ≡ Ok n
+node_back nodes n there small = within_decimal 1 nodes n there.0 there.1 small
+
+place_back : (nodes workers n w : ℕ) → IsOneOf nodes n → IsOneOf workers w → n < 2 ^ 64 → w < 2 ^ 64 → place nodes workers (decimal n) (decimal w) ≡ Ok (n, w)
+unfolding place
+place_back nodes workers n w there next small low =
+    ap (λ r. r >>= λ n. within 1 workers (decimal w) >>= λ w. Ok (n, w)) (node_back nodes n there small) ∙ ap (λ r. r >>= λ w. Ok (n, w)) (node_back workers w next low)
+
+step_back : (nodes workers n w k : ℕ) → IsOneOf nodes n → IsOneOf workers w → 1 ≤ k → k ≤ 100000 → n < 2 ^ 64 → w < 2 ^ 64 → k < 2 ^ 64 → step nodes workers (decimal n) (decimal w) (decimal k) ≡ Ok (event.Step n w k)
+unfolding step
+step_back nodes workers n w k there next some few small low short =
+    ap (λ r. r >>= λ at. within 1 100000 (decimal k) >>= λ k. Ok (event.Step at.0 at.1 k)) (place_back nodes workers n w there next small low)
+    ∙ ap (λ r. r >>= λ k. Ok (event.Step n w k)) (within_decimal 1 100000 k some few short)
+
+random_back : (seed k : ℕ) → 1 ≤ k → k ≤ 100000 → seed < 2 ^ 64 → k < 2 ^ 64 → random (decimal seed) (decimal k) ≡ Ok (event.Random seed k)
+unfolding random
+random_back seed k some few small short =
+    ap (λ r. r >>= λ seed. within 1 100000 (decimal k) >>= λ k. Ok (event.Random seed k)) (number_decimal seed small)
+    ∙ ap (λ r. r >>= λ k. Ok (event.Random seed k)) (within_decimal 1 100000 k some few short)
+
+-- the numbers of an event are below 2 ^ 64
+abbrev pub IsSmall : Event → Type 0
+IsSmall (event.Step n w k) = (n < 2 ^ 64) × (w < 2 ^ 64) × (k < 2 ^ 64)
+IsSmall (event.Flush n w) = (n < 2 ^ 64) × (w < 2 ^ 64)
+IsSmall (event.Idle n w) = (n < 2 ^ 64) × (w < 2 ^ 64)
+IsSmall (event.Dlv k) = k < 2 ^ 64
+IsSmall (event.Discard k) = k < 2 ^ 64
+IsSmall event.All = Unit {0}
+IsSmall (event.Elect n) = n < 2 ^ 64
+IsSmall (event.Tick n) = n < 2 ^ 64
+IsSmall (event.Crash n) = n < 2 ^ 64
+IsSmall (event.Back n) = n < 2 ^ 64
+IsSmall (event.Lose n) = n < 2 ^ 64
+IsSmall (event.Play n s) = (n < 2 ^ 64) × (s < 2 ^ 64)
+IsSmall (event.PlayAll n) = n < 2 ^ 64
+IsSmall (event.Show n) = n < 2 ^ 64
+IsSmall (event.Random seed k) = (seed < 2 ^ 64) × (k < 2 ^ 64)
+
+pub small_by_fit : (nodes workers : ℕ) (e : Event) → nodes < 2 ^ 64 → workers < 2 ^ 64 → EventFits nodes workers e → IsSmall e
+small_by_fit nodes workers (event.Step n w k) few less fits = (omega (arith, fits.0.1), omega (arith, fits.1.1), omega (arith, fits.3))
+small_by_fit nodes workers (event.Flush n w) few less fits = (omega (arith, fits.0.1), omega (arith, fits.1.1))
+small_by_fit nodes workers (event.Idle n w) few less fits = (omega (arith, fits.0.1), omega (arith, fits.1.1))
+small_by_fit nodes workers (event.Dlv k) few less fits = fits.1
+small_by_fit nodes workers (event.Discard k) few less fits = fits
+small_by_fit nodes workers event.All few less fits = tt
+small_by_fit nodes workers (event.Elect n) few less fits = omega (arith, fits.1)
+small_by_fit nodes workers (event.Tick n) few less fits = omega (arith, fits.1)
+small_by_fit nodes workers (event.Crash n) few less fits = omega (arith, fits.1)
+small_by_fit nodes workers (event.Back n) few less fits = omega (arith, fits.1)
+small_by_fit nodes workers (event.Lose n) few less fits = omega (arith, fits.1)
+small_by_fit nodes workers (event.Play n s) few less fits = (omega (arith, fits.0.1), omega (arith, fits.1.1))
+small_by_fit nodes workers (event.PlayAll n) few less fits = omega (arith, fits.1)
+small_by_fit nodes workers (event.Show n) few less fits = omega (arith, fits.1)
+small_by_fit nodes workers (event.Random seed k) few less fits = (fits.0, omega (arith, fits.2))
+
+-- the line of a word and a node
+of_node : (nodes workers n : ℕ) (word : List ℕ) (f : ℕ → Event) → IsWord word → IsOneOf nodes n → n < 2 ^ 64 → event_of nodes workers (word ∷ decimal n ∷ []) ≡ (within 1 nodes (decimal n) >>= λ n. Ok (f n)) → event_in nodes workers (line_of (word ∷ decimal n ∷ [])) ≡ Ok (f n)
+of_node nodes workers n word f is there small same =
+    judged_by_words nodes workers (word ∷ decimal n ∷ []) (one_number word n is small) ∙ same ∙ ap (λ r. r >>= λ n. Ok (f n)) (node_back nodes n there small)
+
+-- the line of a word, a node, and one of its workers or streams
+of_place : (nodes workers n w : ℕ) (word : List ℕ) (f : ℕ → ℕ → Event) → IsWord word → IsOneOf nodes n → IsOneOf workers w → n < 2 ^ 64 → w < 2 ^ 64 → event_of nodes workers (word ∷ decimal n ∷ decimal w ∷ []) ≡ (place nodes workers (decimal n) (decimal w) >>= λ at. Ok (f at.0 at.1)) → event_in nodes workers (line_of (word ∷ decimal n ∷ decimal w ∷ [])) ≡ Ok (f n w)
+of_place nodes workers n w word f is there next small low same =
+    judged_by_words nodes workers (word ∷ decimal n ∷ decimal w ∷ []) (two_numbers word n w is small low) ∙ same ∙ ap (λ r. r >>= λ at. Ok (f at.0 at.1)) (place_back nodes workers n w there next small low)
+
+pub reads_back : (nodes workers : ℕ) (e : Event) → IsSmall e → EventFits nodes workers e → event_in nodes workers (event_line e) ≡ Ok e
+reads_back nodes workers (event.Step n w k) small fits =
+    judged_by_words nodes workers (codes "step" ∷ decimal n ∷ decimal w ∷ decimal k ∷ []) (three_numbers (codes "step") n w k (omega arith, refl) small.0 small.1 small.2)
+    ∙ step_back nodes workers n w k fits.0 fits.1 fits.2 fits.3 small.0 small.1 small.2
+reads_back nodes workers (event.Flush n w) small fits = of_place nodes workers n w (codes "flush") event.Flush (omega arith, refl) fits.0 fits.1 small.0 small.1 refl
+reads_back nodes workers (event.Idle n w) small fits = of_place nodes workers n w (codes "idle") event.Idle (omega arith, refl) fits.0 fits.1 small.0 small.1 refl
+reads_back nodes workers (event.Dlv k) small fits =
+    judged_by_words nodes workers (codes "dlv" ∷ decimal k ∷ []) (one_number (codes "dlv") k (omega arith, refl) small) ∙ ap (λ r. r >>= λ k. Ok (event.Dlv k)) (positive_decimal k fits.0 small)
+reads_back nodes workers (event.Discard k) small fits =
+    judged_by_words nodes workers (codes "drop" ∷ decimal k ∷ []) (one_number (codes "drop") k (omega arith, refl) small) ∙ ap (λ r. r >>= λ k. Ok (event.Discard k)) (number_decimal k small)
+reads_back nodes workers event.All small fits = refl
+reads_back nodes workers (event.Elect n) small fits = of_node nodes workers n (codes "elect") event.Elect (omega arith, refl) fits small refl
+reads_back nodes workers (event.Tick n) small fits = of_node nodes workers n (codes "tick") event.Tick (omega arith, refl) fits small refl
+reads_back nodes workers (event.Crash n) small fits = of_node nodes workers n (codes "crash") event.Crash (omega arith, refl) fits small refl
+reads_back nodes workers (event.Back n) small fits = of_node nodes workers n (codes "back") event.Back (omega arith, refl) fits small refl
+reads_back nodes workers (event.Lose n) small fits = of_node nodes workers n (codes "lose") event.Lose (omega arith, refl) fits small refl
+reads_back nodes workers (event.Play n s) small fits = of_place nodes workers n s (codes "play") event.Play (omega arith, refl) fits.0 fits.1 small.0 small.1 refl
+reads_back nodes workers (event.PlayAll n) small fits = of_node nodes workers n (codes "playall") event.PlayAll (omega arith, refl) fits small refl
+reads_back nodes workers (event.Show n) small fits = of_node nodes workers n (codes "show") event.Show (omega arith, refl) fits small refl
+reads_back nodes workers (event.Random seed k) small fits =
+    judged_by_words nodes workers (codes "random" ∷ decimal seed ∷ decimal k ∷ []) (two_numbers (codes "random") seed k (omega arith, refl) small.0 small.1)
+    ∙ random_back seed k fits.1 fits.2 small.0 small.1
+
+-- the words of an event
+pub event_words_are_words : (e : Event) → IsSmall e → All IsWord (event_words e)
+event_words_are_words (event.Step n w k) small = three_numbers (codes "step") n w k (omega arith, refl) small.0 small.1 small.2
+event_words_are_words (event.Flush n w) small = two_numbers (codes "flush") n w (omega arith, refl) small.0 small.1
+event_words_are_words (event.Idle n w) small = two_numbers (codes "idle") n w (omega arith, refl) small.0 small.1
+event_words_are_words (event.Dlv k) small = one_number (codes "dlv") k (omega arith, refl) small
+event_words_are_words (event.Discard k) small = one_number (codes "drop") k (omega arith, refl) small
+event_words_are_words event.All small = All-cons IsWord (codes "all") [] (omega arith, refl) (All-nil IsWord)
+event_words_are_words (event.Elect n) small = one_number (codes "elect") n (omega arith, refl) small
+event_words_are_words (event.Tick n) small = one_number (codes "tick") n (omega arith, refl) small
+event_words_are_words (event.Crash n) small = one_number (codes "crash") n (omega arith, refl) small
+event_words_are_words (event.Back n) small = one_number (codes "back") n (omega arith, refl) small
+event_words_are_words (event.Lose n) small = one_number (codes "lose") n (omega arith, refl) small
+event_words_are_words (event.Play n s) small = two_numbers (codes "play") n s (omega arith, refl) small.0 small.1
+event_words_are_words (event.PlayAll n) small = one_number (codes "playall") n (omega arith, refl) small
+event_words_are_words (event.Show n) small = one_number (codes "show") n (omega arith, refl) small
+event_words_are_words (event.Random seed k) small = two_numbers (codes "random") seed k (omega arith, refl) small.0 small.1
+
+pub words_back : (nodes workers : ℕ) (e : Event) → IsSmall e → EventFits nodes workers e → event_of nodes workers (event_words e) ≡ Ok e
+words_back nodes workers e small fits = sym (judged_by_words nodes workers (event_words e) (event_words_are_words e small)) ∙ reads_back nodes workers e small fits
