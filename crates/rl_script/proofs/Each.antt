@@ -1,7 +1,6 @@
 -- What each of some words is, one word after another.
-use Rattle.std.proofs.Common.{◌≡◌, ℕ, ◌+◌, ◌<◌, ◌≤◌, List, [], ◌∷◌, ◌++◌, length, map, drop, get_or, Result, Ok, Err, refl, ap, sym, ◌∙◌}
+use Rattle.std.proofs.Common.{◌≡◌, ℕ, ◌+◌, ◌<◌, ◌≤◌, List, [], ◌∷◌, ◌++◌, length, map, drop, get_or, Result, Ok, Err, refl, ap, sym, ◌∙◌, append-nil}
 use Rattle.std.proofs.lemmas.List.{at_drop_more, at_drop_all, append_assoc}
-use Rattle.std.proofs.Common.{append-nil}
 use denote.Bor.{Bor}
 use Rattle.rl_events.specs.Words.{◌>>=◌}
 use Rattle.rl_events.specs.declared.kind.Kind.{Kind}

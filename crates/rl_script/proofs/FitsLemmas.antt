@@ -1,26 +1,32 @@
 -- What the lines so far keep, over one more line.
-use Rattle.std.proofs.Common.{◌≡◌, ℕ, ◌+◌, ◌-◌, ◌<◌, ◌==◌, ◌&&◌, cond, List, [], ◌∷◌, ◌++◌, length, All, sum_by, slice_get, Bool, true, false, Option, Some, None, IfSome, is_some, if◌then◌else◌, zero, suc, refl, ap, sym, ◌∙◌, subst, arith, length-append}
+use Rattle.std.proofs.Common.{◌≡◌, ℕ, ◌+◌, ◌-◌, ◌<◌, ◌≤◌, ◌==◌, ◌&&◌, cond, List, [], ◌∷◌, ◌++◌, length, All, sum_by, slice_get, Bool, true, false, Option, Some, None, IfSome, is_some, Result, Ok, Err, if◌then◌else◌, zero, suc, refl, ap, sym, ◌∙◌, subst, arith, length-append}
 use Rattle.std.specs.Option.{option_map_or}
 use Rattle.std.specs.Ordering.{eq_by_cmp}
 use Rattle.std.specs.FinMap as finite
 use Rattle.std.proofs.lemmas.Bool.{and_parts}
 use Rattle.std.proofs.lemmas.Bool.Decides.{nat_tests}
 use Rattle.std.proofs.lemmas.List.Elements.{All-head, All-tail, All-cons, All-push}
+use Rattle.std.proofs.lemmas.Option.{get_or_from_slice_get, slice_get_within}
 use Rattle.std.proofs.lemmas.List.Sums.{sum_by-cons, sum_by-append}
 use Rattle.rl_base.specs.Lists.{with_last}
+use Rattle.rl_value.specs.Declare.{refusal}
+use Rattle.rl_value.specs.declared.schema.DeclareError.{DeclareError}
 use Rattle.rl_value.specs.Fits.{RowsFit}
 use Rattle.rl_value.specs.Rows.{Rows, place_cmp}
-use Rattle.rl_value.specs.Tables.{Table, size_of, columns_of}
+use Rattle.rl_value.specs.Tables.{Table, IsTable, IsSchema, size_of, columns_of}
 use Rattle.rl_value.proofs.PlacesLemmas.{places_total}
+use Rattle.rl_value.proofs.SchemaLemmas.{fits, schema_push}
 use Rattle.rl_txn.specs.Fits.{TxnFits}
 use Rattle.rl_txn.specs.declared.op.Op.{Op}
-use Rattle.rl_events.specs.Fits.{EventFits}
+use Rattle.rl_events.specs.Fits.{EventFits, IsWithin}
 use Rattle.rl_events.specs.declared.event.Event.{Event}
 use Rattle.rl_script.specs.declared.draft.Draft.{Draft}
 use Rattle.rl_script.specs.declared.draft.OpenTxn.{OpenTxn}
 use Rattle.rl_script.specs.declared.draft.Section.{Section}
 use Rattle.rl_script.specs.declared.draft.Section.TheVariants as section
-use Rattle.rl_script.specs.Fits.{DraftFits, IsWithin, is_before_requests, is_events}
+use Rattle.rl_script.specs.Drafts.{DraftFits}
+use Rattle.rl_script.specs.Fits.{IsNumber, ColumnsFit}
+use Rattle.rl_script.specs.Sections.{is_before_requests, is_events}
 use Rattle.rl_script.specs.Read.{opening}
 
 -- one more event counts as many as it is
@@ -43,7 +49,7 @@ All-with_last P (list ∷ lists) zero x all here = All-cons (All P) (list ++ x �
 All-with_last P (list ∷ lists) (suc i) x all here = All-cons (All P) list (with_last lists i x) (All-head (All P) list lists all) (All-with_last P lists i x (All-tail (All P) list lists all) here)
 
 -- the first sections
-before_events : (s : Section) → is_before_requests s ≡ true → is_events s ≡ false
+pub before_events : (s : Section) → is_before_requests s ≡ true → is_events s ≡ false
 before_events section.Settings h = refl
 before_events section.Tables h = refl
 before_events section.Transactions h = refl
@@ -81,15 +87,23 @@ rows_with_table tables x rows f t k row at =
       old.2 ∙ sym (ap (λ o. option_map_or (λ table. table.columns) o 0) same),
     )
 
+-- nothing keeps a table from being declared that was declared
+pub free : (o : Option DeclareError) (r : Result ℕ DeclareError) (t : ℕ) → IfSome o (λ e. r ≡ Err e) → r ≡ Ok t → o ≡ None
+free None r t refused is = refl
+free (Some e) r t refused is = absurd (let same : Ok t ≡ Err e = sym is ∙ refused in cc)
+
 -- a table
-pub fits_with_table : (draft : Draft) (x : Table) (tables : List Table) → DraftFits draft → is_before_requests draft.section ≡ true → tables ≡ draft.schema ++ x ∷ [] → DraftFits (record draft { section = section.Tables; schema = tables })
-fits_with_table draft x tables f early is =
+pub fits_with_table : (draft : Draft) (x : Table) (tables : List Table) → DraftFits draft → is_before_requests draft.section ≡ true → IsTable x → refusal x.name x.size draft.schema ≡ None → tables ≡ draft.schema ++ x ∷ [] → DraftFits (record draft { section = section.Tables; schema = tables })
+fits_with_table draft x tables f early one declared is =
     let none : draft.requests ≡ 0 = f.tables_first early in
     let open_none : draft.current ≡ None = none_open draft.current (sum_by (λ l. length l) draft.lists) (f.requests.count ∙ none) in
     let no_ops : sum_by (λ l. length l) draft.lists ≡ 0 = omega (arith, f.requests.count, none) in
+    let room = fits x.name x.size draft.schema declared in
     record {
+      tables = rw is (schema_push draft.schema x f.tables one room.new (omega (arith, f.tables.few, room.few)) room.records);
       settings = f.settings;
       rows = rw is (rows_with_table draft.schema x draft.rows f.rows);
+      columns = f.columns;
       requests = record {
         each = all_empty (TxnFits tables) draft.lists no_ops;
         one_list_each = f.requests.one_list_each;
@@ -102,10 +116,10 @@ fits_with_table draft x tables f early is =
       events_last = λ h. f.events_last (before_events draft.section early);
     }
 
-at_place : (a b c d : ℕ) → eq_by_cmp place_cmp (a, b) (c, d) ≡ ((a == c) && (b == d))
+pub at_place : (a b c d : ℕ) → eq_by_cmp place_cmp (a, b) (c, d) ≡ ((a == c) && (b == d))
 at_place a b c d = grind (arith, nat_tests)
 
-is_same : (a b : ℕ) → (a == b) ≡ true → a ≡ b
+pub is_same : (a b : ℕ) → (a == b) ≡ true → a ≡ b
 is_same a b h = grind (arith, nat_tests)
 
 rows_with_row : (tables : List Table) (rows : Rows) (t k : ℕ) (cells : List ℕ) → RowsFit tables rows → t < length tables → k < size_of tables t → length cells ≡ columns_of tables t → RowsFit tables (finite.insert rows (t, k) cells)
@@ -121,11 +135,21 @@ rows_with_row tables rows t k cells f there within all q j row at =
         let same_row : row ≡ cells = cc in
         (rw same_t there, rw (same_t, same_k) within, rw (same_t, same_row) all)
 
+columns_with_row : (rows : Rows) (t k : ℕ) (cells : List ℕ) → ColumnsFit rows → All IsNumber cells → ColumnsFit (finite.insert rows (t, k) cells)
+columns_with_row rows t k cells f numbers q j row at =
+    go (eq_by_cmp place_cmp (q, j) (t, k)) (sym (finite.get-insert places_total rows (t, k) cells (q, j)) ∙ at)
+  where
+    go : (b : Bool) → cond b (Some cells) (finite.get rows (q, j)) ≡ Some row → All IsNumber row
+    go false is = f q j row is
+    go true is = let same : cells ≡ row = cc in subst (All IsNumber) same numbers
+
 -- a row
-pub fits_with_row : (draft : Draft) (t k : ℕ) (cells : List ℕ) (rows : Rows) → DraftFits draft → is_before_requests draft.section ≡ true → t < length draft.schema → k < size_of draft.schema t → length cells ≡ columns_of draft.schema t → rows ≡ finite.insert draft.rows (t, k) cells → DraftFits (record draft { section = section.Tables; rows = rows })
-fits_with_row draft t k cells rows f early there within all is = record {
+pub fits_with_row : (draft : Draft) (t k : ℕ) (cells : List ℕ) (rows : Rows) → DraftFits draft → is_before_requests draft.section ≡ true → t < length draft.schema → k < size_of draft.schema t → length cells ≡ columns_of draft.schema t → All IsNumber cells → rows ≡ finite.insert draft.rows (t, k) cells → DraftFits (record draft { section = section.Tables; rows = rows })
+fits_with_row draft t k cells rows f early there within all numbers is = record {
+  tables = f.tables;
   settings = f.settings;
   rows = rw is (rows_with_row draft.schema draft.rows t k cells f.rows there within all);
+  columns = rw is (columns_with_row draft.rows t k cells f.columns numbers);
   requests = f.requests;
   tables_first = λ h. f.tables_first early;
   events = f.events;
@@ -139,8 +163,10 @@ fits_ended draft current lists is more f =
     let within : current.worker - 1 < length draft.lists = omega (arith, now.1.0, now.1.1) in
     let one : sum_by (λ l. length l) draft.lists + 1 ≡ draft.requests = rw is at f.requests.count in
     record {
+      tables = f.tables;
       settings = f.settings;
       rows = f.rows;
+      columns = f.columns;
       requests = record {
         each = rw more (All-with_last (TxnFits draft.schema) draft.lists (current.worker - 1) current.txn f.requests.each now.0);
         one_list_each = ap length more ∙ length-with_last draft.lists (current.worker - 1) current.txn ∙ f.requests.one_list_each;
@@ -156,10 +182,20 @@ fits_ended draft current lists is more f =
 -- before all lines
 pub fits_opening : (draft : Draft) → draft ≡ opening → DraftFits draft
 fits_opening draft is = subst DraftFits (sym is) (record {
-  settings = record { nodes = (omega arith, omega arith); workers = (omega arith, omega arith); batch = (omega arith, omega arith); loss = omega arith; stops = no_element (IsWithin 1 1000000); few_stops = omega arith };
+  tables = record { names = λ t within. absurd (omega arith); few = omega arith; records = omega arith; each = no_element IsTable };
+  settings = record { nodes = (omega arith, omega arith); workers = (omega arith, omega arith); batch = (omega arith, omega arith); loss = omega arith; seed = omega arith; stops = no_element (IsWithin 1 1000000); few_stops = omega arith };
   rows = λ t k row at. absurd (let e : None ≡ Some row = sym (finite.get-empty place_cmp (t, k)) ∙ at in cc);
+  columns = λ t k row at. absurd (let e : None ≡ Some row = sym (finite.get-empty place_cmp (t, k)) ∙ at in cc);
   requests = record { each = All-cons (All (TxnFits [])) [] [] (no_element (TxnFits [])) (no_element (All (TxnFits []))); one_list_each = refl; count = refl; few = omega arith; open_fits = tt };
   tables_first = λ h. refl;
   events = record { each = no_element (EventFits 1 1); counted = omega arith; elections = omega arith };
   events_last = λ h. refl;
 })
+
+-- no table has more keys than one may have
+pub few_keys : (tables : List Table) → IsSchema tables → (t : ℕ) → size_of tables t ≤ 65536
+few_keys tables ok t = go (slice_get tables t) refl
+  where
+    go : (o : Option Table) → slice_get tables t ≡ o → option_map_or (λ (table : Table). table.size) o 0 ≤ 65536
+    go None is = omega arith
+    go (Some table) is = (subst IsTable (get_or_from_slice_get tables t table table is) (ok.each t table (slice_get_within tables t table is))).few_keys

@@ -1,2 +1,13 @@
 pub mod Each
+pub mod EventsBack
 pub mod FitsLemmas
+pub mod LinesBack
+pub mod OpsBack
+pub mod PrintLemmas
+pub mod RowsBack
+pub mod ScriptBack
+pub mod SettingsBack
+pub mod ShortBack
+pub mod TablesBack
+pub mod TxnsBack
+pub mod WordsBack

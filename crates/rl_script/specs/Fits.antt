@@ -1,67 +1,33 @@
--- What a script keeps, and what its lines so far keep: the ranges and limits of the language.
-use Rattle.std.specs.Prelude.{◌≡◌, ℕ, ◌+◌, ◌≤◌, List, [], length, All, sum_by, Option, IfSome, is_some, Bool, true, false, unwrap_or, if◌then◌else◌}
+-- What a script keeps: the ranges and limits of the language.
+use Rattle.std.specs.Prelude.{◌≡◌, ℕ, ◌^◌, ◌<◌, ◌≤◌, List, length, All, Some}
+use Rattle.std.specs.FinMap as map
 use Rattle.rl_value.specs.Fits.{RowsFit}
-use Rattle.rl_value.specs.Tables.{Table}
-use Rattle.rl_txn.specs.Fits.{TxnFits, ListsFit}
-use Rattle.rl_txn.specs.declared.op.Op.{Op}
-use Rattle.rl_events.specs.Fits.{EventsFit}
-use Rattle.rl_script.specs.declared.draft.OpenTxn.{OpenTxn}
-use Rattle.rl_script.specs.declared.draft.Section.{Section}
-use Rattle.rl_script.specs.declared.draft.Section.TheVariants as section
-use Rattle.rl_script.specs.declared.draft.Draft.{Draft}
+use Rattle.rl_value.specs.Rows.{Rows}
+use Rattle.rl_value.specs.Tables.{IsSchema}
+use Rattle.rl_txn.specs.Fits.{ListsFit}
+use Rattle.rl_events.specs.Fits.{EventsFit, IsWithin}
 use Rattle.rl_script.specs.declared.script.Script.{Script}
-use Rattle.rl_script.specs.declared.settings.Settings.{Settings}
-use Rattle.rl_script.specs.Settings.{nodes_of, workers_of}
 
--- a number from low to high
-abbrev pub IsWithin : ℕ → ℕ → ℕ → Type 0
-IsWithin low high n = (low ≤ n) × (n ≤ high)
+-- a number of the language has 64 bits
+abbrev pub IsNumber : ℕ → Type 0
+IsNumber n = n < 2 ^ 64
 
--- the settings so far are in their ranges
-pub record SettingsFit (s : Settings) : Type 0 where
-  pub nodes : IsWithin 1 7 (nodes_of s)
-  pub workers : IsWithin 1 16 (workers_of s)
-  pub batch : IsWithin 1 64 (unwrap_or s.batch 1)
-  pub loss : unwrap_or s.loss 0 ≤ 999
-  pub stops : All (IsWithin 1 1000000) s.stops
-  pub few_stops : length s.stops ≤ 63
-
--- the requests so far fit the tables, and are counted
-pub record RequestsFit (tables : List Table) (workers : ℕ) (lists : List (List (List Op))) (current : Option OpenTxn) (requests : ℕ) : Type 0 where
-  pub each : All (All (TxnFits tables)) lists
-  pub one_list_each : length lists ≡ workers
-  pub count : sum_by length lists + (if is_some current then 1 else 0) ≡ requests
-  pub few : requests ≤ 8192
-  pub open_fits : IfSome current (λ current. TxnFits tables current.txn × IsWithin 1 (length lists) current.worker)
-
--- whether tables can still be declared
-abbrev pub is_before_requests : Section → Bool
-is_before_requests section.Settings = true
-is_before_requests section.Tables = true
-is_before_requests s = false
-
-abbrev pub is_events : Section → Bool
-is_events section.Events = true
-is_events s = false
-
--- what the lines so far say fits together
-pub record DraftFits (draft : Draft) : Type 0 where
-  pub settings : SettingsFit draft.settings
-  pub rows : RowsFit draft.schema draft.rows
-  pub requests : RequestsFit draft.schema (workers_of draft.settings) draft.lists draft.current draft.requests
-  pub tables_first : is_before_requests draft.section ≡ true → draft.requests ≡ 0
-  pub events : EventsFit (nodes_of draft.settings) (workers_of draft.settings) draft.events
-  pub events_last : is_events draft.section ≡ false → draft.events ≡ []
+-- the columns of all rows are numbers
+abbrev pub ColumnsFit : Rows → Type 0
+ColumnsFit rows = (t k : ℕ) (row : List ℕ) → map.get rows (t, k) ≡ Some row → All IsNumber row
 
 -- a script keeps the ranges and limits of the language
 pub record ScriptFits (script : Script) : Type 0 where
+  pub tables : IsSchema script.schema
   pub nodes : IsWithin 1 7 script.nodes
   pub workers : IsWithin 1 16 script.workers
   pub batch : IsWithin 1 64 script.batch
   pub loss : script.loss ≤ 999
+  pub seed : IsNumber script.seed
   pub stops : All (IsWithin 1 1000000) script.stops
   pub few_stops : length script.stops ≤ 63
   pub rows : RowsFit script.schema script.rows
+  pub columns : ColumnsFit script.rows
   pub lists : ListsFit script.schema script.lists
   pub one_list_each : length script.lists ≡ script.workers
   pub events : EventsFit script.nodes script.workers script.events

@@ -1,7 +1,10 @@
 pub mod Answers
+pub mod Drafts
 pub mod Fits
 pub mod Lines
 pub mod Operations
+pub mod Printed
 pub mod Read
+pub mod Sections
 pub mod Settings
 pub mod Words

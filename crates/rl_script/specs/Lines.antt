@@ -8,7 +8,7 @@ use Rattle.rl_script.specs.declared.line.OpWord.{OpWord}
 use Rattle.rl_script.specs.declared.line.OpWord.TheVariants as ops
 use Rattle.rl_script.specs.declared.line.LineKind.{LineKind}
 use Rattle.rl_script.specs.declared.line.LineKind.TheVariants.{Setting, Table, Row, Txn, End, Op, Events, Event}
-use Rattle.rl_script.specs.Fits.{is_events}
+use Rattle.rl_script.specs.Sections.{is_events}
 use Rattle.rl_script.specs.Settings.{setting_word}
 
 -- which op a first word begins

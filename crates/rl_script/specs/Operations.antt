@@ -2,6 +2,7 @@
 use Rattle.std.specs.Prelude.{ℕ, ◌-◌, ◌&&◌, List, [], ◌∷◌, length, ◌==◌, nat_le, Some, None, Result, Ok, Err, if◌then◌else◌}
 use Rattle.rl_value.specs.Tables.{Table, table_named, columns_of}
 use Rattle.rl_txn.specs.declared.op.Op.{Op}
+use Rattle.rl_txn.specs.declared.op.Operand.{Operand}
 use Rattle.rl_txn.specs.declared.op.Op.TheVariants as op
 use Rattle.rl_events.specs.declared.kind.Kind.{Kind}
 use Rattle.rl_events.specs.declared.kind.Kind.TheVariants.{Count, UnknownTable}
@@ -36,29 +37,25 @@ set_of d a = do
   a ← operand a
   Ok (op.Set d a)
 
--- `add D A B`
-unfoldable pub add_of : List ℕ → List ℕ → List ℕ → Result Op Kind
-add_of d a b = do
+-- `D A B`, a register and two operands
+unfoldable pub terms_of : List ℕ → List ℕ → List ℕ → Result (ℕ × Operand × Operand) Kind
+terms_of d a b = do
   d ← register d
   a ← operand a
   b ← operand b
-  Ok (op.Add d a b)
+  Ok (d, a, b)
+
+-- `add D A B`
+abbrev pub add_of : List ℕ → List ℕ → List ℕ → Result Op Kind
+add_of d a b = terms_of d a b >>= λ t. Ok (op.Add t.0 t.1 t.2)
 
 -- `sub D A B`
-unfoldable pub sub_of : List ℕ → List ℕ → List ℕ → Result Op Kind
-sub_of d a b = do
-  d ← register d
-  a ← operand a
-  b ← operand b
-  Ok (op.Sub d a b)
+abbrev pub sub_of : List ℕ → List ℕ → List ℕ → Result Op Kind
+sub_of d a b = terms_of d a b >>= λ t. Ok (op.Sub t.0 t.1 t.2)
 
 -- `mul D A B`
-unfoldable pub mul_of : List ℕ → List ℕ → List ℕ → Result Op Kind
-mul_of d a b = do
-  d ← register d
-  a ← operand a
-  b ← operand b
-  Ok (op.Mul d a b)
+abbrev pub mul_of : List ℕ → List ℕ → List ℕ → Result Op Kind
+mul_of d a b = terms_of d a b >>= λ t. Ok (op.Mul t.0 t.1 t.2)
 
 -- `get T K C D`: C a column of the table
 unfoldable pub get_of : List Table → List ℕ → List ℕ → List ℕ → List ℕ → Result Op Kind

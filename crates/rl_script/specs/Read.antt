@@ -1,5 +1,5 @@
 -- What a script says, line by line, or what is wrong with its first wrong line.
-use Rattle.std.specs.Prelude.{ℕ, ◌+◌, ◌-◌, Bool, true, false, not, ◌&&◌, List, [], ◌∷◌, ◌++◌, length, slice_index, sum_by, replicate, ◌==◌, nat_lt, Option, Some, None, is_some, unwrap_or, Result, Ok, Err, if◌then◌else◌, codes}
+use Rattle.std.specs.Prelude.{ℕ, ◌+◌, ◌-◌, Bool, false, not, ◌&&◌, List, [], ◌∷◌, ◌++◌, length, slice_index, sum_by, replicate, ◌==◌, nat_lt, Option, Some, None, is_some, unwrap_or, Result, Ok, Err, if◌then◌else◌, codes}
 use Rattle.std.specs.Str.{bytes_eq}
 use Rattle.std.specs.FinMap as map
 use Rattle.rl_base.specs.Lists.{with_last}
@@ -14,7 +14,6 @@ use Rattle.rl_events.specs.Words.{◌>>=◌, number, within}
 use Rattle.rl_events.specs.declared.event.Event.{Event}
 use Rattle.rl_events.specs.declared.line.EventWord.{EventWord}
 use Rattle.rl_events.specs.declared.kind.Kind.TheVariants.{Byte, Header, Word, Order, Count, Name, Duplicate, Unended}
-use Rattle.rl_script.specs.declared.draft.Section.{Section}
 use Rattle.rl_script.specs.declared.draft.Section.TheVariants as section
 use Rattle.rl_script.specs.declared.draft.Draft.{Draft}
 use Rattle.rl_script.specs.declared.script.Script.{Script}
@@ -25,7 +24,7 @@ use Rattle.rl_script.specs.declared.line.OpWord.{OpWord}
 use Rattle.rl_script.specs.declared.line.LineKind.{LineKind}
 use Rattle.rl_script.specs.declared.line.LineKind.TheVariants as line
 use Rattle.rl_script.specs.Answers.{as_problem}
-use Rattle.rl_script.specs.Fits.{is_before_requests, is_events}
+use Rattle.rl_script.specs.Sections.{is_settings, is_before_requests, is_events}
 use Rattle.rl_script.specs.Lines.{line_kind}
 use Rattle.rl_script.specs.Operations.{table_for, each_word, read_op}
 use Rattle.rl_script.specs.Settings.{no_settings, nodes_of, workers_of, with_setting}
@@ -36,6 +35,7 @@ setting draft word value = do
   settings ← as_problem (with_setting draft.settings word value)
   Ok (record draft { settings = settings; lists = replicate (workers_of settings) [] })
 
+-- the tables with one more
 abbrev pub with_table : Draft → List ℕ → ℕ → ℕ → Draft
 with_table draft name size columns = record draft { section = section.Tables; schema = draft.schema ++ record { name = name; size = size; columns = columns } ∷ [] }
 
@@ -102,10 +102,6 @@ event_joined draft word words = do
   events ← scheduled draft.events event
   Ok (record draft { events = events })
 
-abbrev pub is_settings : Section → Bool
-is_settings section.Settings = true
-is_settings s = false
-
 -- whether a line of a kind can stand here: settings, then tables and rows, then transactions, then the events; ops and `end` inside a transaction, and nothing else there
 abbrev pub in_order : Draft → LineKind → Bool
 in_order draft (line.Setting word) = is_settings draft.section
@@ -168,6 +164,7 @@ header_fault line = if is_printable line then (if is_header (words_of line) then
 abbrev pub opening : Draft
 opening = record { section = section.Settings; settings = no_settings; schema = []; rows = map.empty; lists = [] ∷ []; requests = 0; current = None; events = [] }
 
+-- the lines after the first, unless something is wrong with it
 abbrev pub after_header : Option Problem → List (List ℕ) → Result Draft (ℕ × Problem)
 after_header None lines = read_lines 2 opening lines
 after_header (Some problem) lines = Err (1, problem)

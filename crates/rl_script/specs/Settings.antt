@@ -19,10 +19,11 @@ setting_word w =
 abbrev pub no_settings : Settings
 no_settings = record { nodes = None; workers = None; batch = None; loss = None; seed = None; stops = [] }
 
--- the values of the settings, given or not
+-- how many nodes there are
 abbrev pub nodes_of : Settings → ℕ
 nodes_of s = unwrap_or s.nodes 1
 
+-- how many workers there are
 abbrev pub workers_of : Settings → ℕ
 workers_of s = unwrap_or s.workers 1
 

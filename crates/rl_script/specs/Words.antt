@@ -24,6 +24,7 @@ register_of word =
 abbrev pub register : List ℕ → Result ℕ Kind
 register word = or_fault Register (register_of word)
 
+-- a number as an operand, where there is one
 abbrev pub number_operand : Option ℕ → Result Operand Kind
 number_operand None = Err Register
 number_operand (Some n) = Ok (Num n)

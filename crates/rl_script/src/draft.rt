@@ -1,13 +1,15 @@
 //! What the lines of a script say so far.
 
-ghost use Rattle.std.specs.Prelude.{◌≡◌, ◌≤◌, ◌<◌, [], MatchResult, None, Ok, IfOk, OnOk, true, false, length, map, replicate, vec_len};
+ghost use Rattle.std.specs.Prelude.{◌≡◌, ◌≤◌, ◌<◌, [], All, MatchResult, None, Ok, IfOk, OnOk, true, false, length, map, replicate, vec_len};
 ghost use Rattle.rl_value.specs.Names.{is_name};
 ghost use Rattle.rl_txn.specs.Fits.{OpFits};
 ghost use Rattle.rl_script.specs.Answers.{as_problem, Fails};
-ghost use Rattle.rl_script.specs.Fits.{DraftFits, is_before_requests, is_events};
+ghost use Rattle.rl_script.specs.Drafts.{DraftFits};
+ghost use Rattle.rl_script.specs.Fits.{IsNumber};
+ghost use Rattle.rl_script.specs.Sections.{is_before_requests, is_events, is_settings};
 ghost use Rattle.rl_events.specs.Words.{number};
 ghost use Rattle.rl_script.specs.Operations.{each_word};
-ghost use Rattle.rl_script.specs.Read.{is_settings, setting, joined, declared, row_of, begun, ended, op_joined, event_joined, in_order, read_kind, read_words, read_line, opening};
+ghost use Rattle.rl_script.specs.Read.{setting, joined, declared, row_of, begun, ended, op_joined, event_joined, in_order, read_kind, read_words, read_line, opening};
 
 use crate::fault::LineError;
 use crate::line::{LineKind, OpWord, line_kind};
@@ -80,6 +82,7 @@ fn numbers(alloc: Global, words: &[&str]) -> Result<Vec<u64>, LineError>
         (λ numbers. each_word number (map (λ w. w.now) words.now) ≡ Ok numbers.items)
         (λ e. Fails e (as_problem (each_word number (map (λ w. w.now) words.now)))) }
     ensures count { IfOk result (λ numbers. vec_len numbers ≡ length words.now) }
+    ensures each { IfOk result (λ numbers. All IsNumber numbers.items) }
 {
     let mut numbers = Vec::new(alloc);
     for word in words {

@@ -1,10 +1,11 @@
-//! Reads a script.
+//! Reads a script, and prints it.
 #![tactic(auto)]
 
 mod draft;
 pub mod fault;
 mod line;
 mod operation;
+pub mod printed;
 mod schedule;
 pub mod script;
 mod settings;

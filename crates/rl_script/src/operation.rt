@@ -3,7 +3,7 @@
 ghost use Rattle.std.specs.Prelude.{◌≡◌, ◌≢◌, ◌<◌, ◌≤◌, List, [], All, MatchResult, Ok, IfOk, length, map};
 ghost use Rattle.rl_value.specs.Tables.{Table, columns_of};
 ghost use Rattle.rl_txn.specs.Fits.{OperandFits, OpFits};
-ghost use Rattle.rl_script.specs.Operations.{known, table_for, each_word, set_of, add_of, sub_of, mul_of, get_of, has_of, put_of, del_of, scan_of, need_of, skip_of, out_of, read_op};
+ghost use Rattle.rl_script.specs.Operations.{known, table_for, each_word, set_of, terms_of, add_of, sub_of, mul_of, get_of, has_of, put_of, del_of, scan_of, need_of, skip_of, out_of, read_op};
 ghost use Rattle.rl_script.specs.Answers.{as_problem, Fails};
 ghost use Rattle.rl_script.specs.Words.{operand};
 
@@ -12,7 +12,7 @@ use crate::line::OpWord;
 use crate::word::{operand, register, relation};
 use rl_events::kind::Kind;
 use rl_events::word::within;
-use rl_txn::op::{Op, Operands};
+use rl_txn::op::{Op, Operand, Operands};
 use rl_value::schema::Schema;
 use std::alloc::Global;
 
@@ -72,39 +72,44 @@ fn set(d: &str, a: &str) -> Result<Op, Kind>
     Ok(Op::Set { d, a })
 }
 
+/// `D A B`, a register and two operands.
+#[tactic(auto, unfolding(crate::specs::Operations::terms_of))]
+fn terms(d: &str, a: &str, b: &str) -> Result<(u32, Operand, Operand), Kind>
+    ensures terms { result ≡ terms_of d.now a.now b.now }
+    ensures register { IfOk result (λ t. t.0 < 16) }
+    ensures first { IfOk result (λ t. OperandFits t.1) }
+    ensures second { IfOk result (λ t. OperandFits t.2) }
+{
+    let d = register(d)?;
+    let a = operand(a)?;
+    let b = operand(b)?;
+    Ok((d, a, b))
+}
+
 /// `add D A B`
-#[tactic(auto, unfolding(crate::specs::Operations::add_of))]
 fn add(d: &str, a: &str, b: &str) -> Result<Op, Kind>
     ensures op { result ≡ add_of d.now a.now b.now }
     ensures fits { (tables : List Table) → IfOk result (λ op. OpFits tables op) }
 {
-    let d = register(d)?;
-    let a = operand(a)?;
-    let b = operand(b)?;
+    let (d, a, b) = terms(d, a, b)?;
     Ok(Op::Add { d, a, b })
 }
 
 /// `sub D A B`
-#[tactic(auto, unfolding(crate::specs::Operations::sub_of))]
 fn sub(d: &str, a: &str, b: &str) -> Result<Op, Kind>
     ensures op { result ≡ sub_of d.now a.now b.now }
     ensures fits { (tables : List Table) → IfOk result (λ op. OpFits tables op) }
 {
-    let d = register(d)?;
-    let a = operand(a)?;
-    let b = operand(b)?;
+    let (d, a, b) = terms(d, a, b)?;
     Ok(Op::Sub { d, a, b })
 }
 
 /// `mul D A B`
-#[tactic(auto, unfolding(crate::specs::Operations::mul_of))]
 fn mul(d: &str, a: &str, b: &str) -> Result<Op, Kind>
     ensures op { result ≡ mul_of d.now a.now b.now }
     ensures fits { (tables : List Table) → IfOk result (λ op. OpFits tables op) }
 {
-    let d = register(d)?;
-    let a = operand(a)?;
-    let b = operand(b)?;
+    let (d, a, b) = terms(d, a, b)?;
     Ok(Op::Mul { d, a, b })
 }
 

@@ -7,15 +7,12 @@ ghost use Rattle.rl_script.specs.Read.{scheduled};
 
 use crate::fault::LineError;
 use rl_base::limit::LimitName;
-use rl_events::event::{Event, Events};
+use rl_events::event::{Event, Events, MOST_EVENTS};
 use std::alloc::Global;
 use std::marker::Model;
 
 /// How many elections a script may have.
 const MOST_ELECTIONS: u32 = 64;
-
-/// How many events a script may have.
-const MOST_EVENTS: u32 = 100000;
 
 /// The events so far, which keep the limits of a script. Contracts see their list.
 #[derive(Drop)]

@@ -3,7 +3,8 @@
 ghost use Rattle.std.specs.Prelude.{◌≡◌, ◌<◌, ◌-◌, ◌^◌, None, Ok, IfOk, MatchResult, length, map};
 ghost use Rattle.rl_events.specs.Text.{lines_of};
 ghost use Rattle.rl_script.specs.Answers.{Finds, FailsAt};
-ghost use Rattle.rl_script.specs.Fits.{DraftFits, ScriptFits};
+ghost use Rattle.rl_script.specs.Drafts.{DraftFits};
+ghost use Rattle.rl_script.specs.Fits.{ScriptFits};
 ghost use Rattle.rl_script.specs.Read.{is_header, header_fault, read_text, read, script_of};
 
 use crate::draft::Draft;
@@ -17,14 +18,16 @@ use rl_value::map::Map;
 use rl_value::schema::Schema;
 use std::alloc::Global;
 
-/// The seqs behind which leaders are stopped, one for each stop.
+/// One number D for each stop: the leader of that epoch stops behind the seq D + 1.
 pub type Stops = Seq<u64>;
 
 /// A script: its tables with their opening rows, its settings, the requests of each worker, and
 /// the events.
 #[derive(Drop)]
 pub struct Script {
+    /// The tables.
     pub schema: Schema,
+    /// The opening rows.
     pub rows: Map,
     /// How many nodes there are, 1 to 7.
     pub nodes: u32,
@@ -36,8 +39,11 @@ pub struct Script {
     pub loss: u32,
     /// What losses are drawn from.
     pub seed: u64,
+    /// At most 63 stops, each 1 to 1,000,000.
     pub stops: Stops,
+    /// The requests of each worker, at most 8,192 together.
     pub lists: Lists,
+    /// The events, which count as at most 100,000, with at most 64 elections.
     pub events: Events,
 }
 
@@ -45,8 +51,9 @@ pub struct Script {
 ///
 /// `Fault` and `Limit` name the first line with which something is wrong, and what: of a line that
 /// breaks rules the first one, in the order `Byte`, `Header`, `Word`, `Order`, `Count`, then each
-/// word from left to right, then `Duplicate`; and where it breaks none, the first limit that it
-/// passes. A text that ends inside a transaction is `Unended` at the line behind its last.
+/// word from left to right, then `Duplicate`; and where it breaks none, the limit that it passes:
+/// `Tables` comes before `Records`, and `Elections` before `Events`. Without memory it is `Memory`. A text that ends inside a transaction is `Unended` at the line behind its last.
+/// A text has fewer than 2^32 - 1 bytes.
 #[tactic(auto, unfolding(crate::specs::Read::read))]
 pub fn parse(alloc: Global, text: &[u8]) -> Result<Script, ParseError>
     requires { length text.now < 2 ^ 32 - 1 }
@@ -106,6 +113,7 @@ fn header(alloc: Global, line: &[u8]) -> Result<(), LineError>
     Ok(())
 }
 
+/// Whether these are the words of a script's first line.
 fn is_header(words: &[&str]) -> bool
     ensures { result ≡ is_header (map (λ w. w.now) words.now) }
 {

@@ -2,7 +2,7 @@
 
 ghost use Rattle.std.specs.Prelude.{◌≡◌, ◌≤◌, [], MatchResult, Some, Ok, IfOk};
 ghost use Rattle.rl_script.specs.Answers.{as_problem, Fails};
-ghost use Rattle.rl_script.specs.Fits.{SettingsFit};
+ghost use Rattle.rl_script.specs.Drafts.{SettingsFit};
 ghost use Rattle.rl_script.specs.Settings.{setting_word, no_settings, nodes_of, workers_of, once, one_more, with_setting};
 
 use crate::fault::LineError;

@@ -1,6 +1,7 @@
-//! What is wrong with texts, and what right ones say.
+//! What is wrong with texts, what right ones say, and how these are printed.
 
 use crate::fault::ParseError;
+use crate::printed::print;
 use crate::script::parse;
 use rl_base::limit::LimitName;
 use rl_events::event::Event;
@@ -8,9 +9,10 @@ use rl_events::kind::Kind;
 use std::test::Fail;
 
 /// Texts, with the first line that breaks a rule and the rule.
-const FAULTS: [(&str, u32, Kind); 45] = [
+const FAULTS: [(&str, u32, Kind); 51] = [
     ("", 1, Kind::Header),
     ("\nrolis 1", 1, Kind::Header),
+    ("# rolis 1\nrolis 1", 1, Kind::Header),
     ("rolis 2", 1, Kind::Header),
     ("rolis 1 \u{7f}", 1, Kind::Byte),
     ("rolis 1\nrolis 1", 2, Kind::Word),
@@ -49,8 +51,13 @@ const FAULTS: [(&str, u32, Kind); 45] = [
     ),
     ("rolis 1\ntable t 2 1\nrow t 2 x", 3, Kind::Range),
     ("rolis 1\nrow t 0 1", 2, Kind::UnknownTable),
+    ("rolis 1\nrow t 0 1\ntable t 1 1", 2, Kind::UnknownTable),
     ("rolis 1\ntxn 1\ndel t 0", 3, Kind::UnknownTable),
+    ("rolis 1\ntxn 1\nput t 0 1 2 3 4", 3, Kind::UnknownTable),
+    ("rolis 1\ntxn 1\nput t 0 1 2 3 4 5", 3, Kind::Count),
     ("rolis 1\ntxn 1\nset r16 1", 3, Kind::Register),
+    ("rolis 1\ntxn 1\nout 01", 3, Kind::Register),
+    ("rolis 1\ntxn 1\nout r01", 3, Kind::Register),
     (
         "rolis 1\ntxn 1\nout 18446744073709551616",
         3,
@@ -70,12 +77,21 @@ const FAULTS: [(&str, u32, Kind); 45] = [
 
 /// Texts that go on with some lines, how often these are repeated, and the first line at which a
 /// limit is passed, its name and its value.
-const LIMITS: [(&str, &str, usize, u32, LimitName, u32); 4] = [
+const LIMITS: [(&str, &str, usize, u32, LimitName, u32); 5] = [
     (
         "rolis 1\nevents\n",
         "elect 1\n",
         65,
         67,
+        LimitName::Elections,
+        64,
+    ),
+    // A line that passes both limits: elections are told first.
+    (
+        "rolis 1\nevents\nrandom 1 99936\n",
+        "elect 1\n",
+        65,
+        68,
         LimitName::Elections,
         64,
     ),
@@ -98,9 +114,22 @@ const LIMITS: [(&str, &str, usize, u32, LimitName, u32); 4] = [
     ),
 ];
 
+/// Texts, with the printed form of what they say.
+const PRINTED: [(&str, &str); 2] = [
+    (
+        "rolis 1\nseed 9\nstop 6\n nodes 3\nworkers 2\nloss 7\nstop 5\ntable a 3 1\n# note\nrow a 2 8\ntable b_1 2 2\nrow b_1 1 4 5\nrow a 0 7\ntxn 2\nset r1  18446744073709551615\nadd r2 r1 0\nsub r3 1 r2\nmul r4 2 3\nput b_1 r1 1 r15\ndel a 2\nend\ntxn 1\nget b_1 0 1 r0\nhas a r0 r1\nneed r0 ge 2\nend\ntxn 2\nscan a 0 3 0 r10\nskip r10 ne 5 1\nout r10\nend\nevents\nstep 1 2 3\n\n all",
+        "rolis 1\nnodes 3\nworkers 2\nbatch 1\nloss 7\nseed 9\nstop 6\nstop 5\ntable a 3 1\ntable b_1 2 2\nrow a 0 7\nrow a 2 8\nrow b_1 1 4 5\ntxn 1\nget b_1 0 1 r0\nhas a r0 r1\nneed r0 ge 2\nend\ntxn 2\nset r1 18446744073709551615\nadd r2 r1 0\nsub r3 1 r2\nmul r4 2 3\nput b_1 r1 1 r15\ndel a 2\nend\ntxn 2\nscan a 0 3 0 r10\nskip r10 ne 5 1\nout r10\nend\nevents\nstep 1 2 3\nall\n",
+    ),
+    (
+        "rolis 1\ntxn 1\nend\nevents",
+        "rolis 1\nnodes 1\nworkers 1\nbatch 1\nloss 0\nseed 0\ntxn 1\nend\n",
+    ),
+];
+
 #[test]
 fn faults_have_their_lines(rt: HostRuntime) -> Result<(), Fail> {
     for (text, line, kind) in FAULTS {
+        // `parse` takes a text of fewer than 2^32 - 1 bytes.
         assert!(rt; text.len() < 1000);
         let fault = parse(rt.alloc(), text.as_bytes()).err();
         assert_eq!(rt; fault, Some(ParseError::Fault { line, kind }), "{text}");
@@ -114,6 +143,36 @@ fn tables_pass_limits(rt: HostRuntime) -> Result<(), Fail> {
     let (line, name, limit) = (3, LimitName::Records, 65536);
     let passed = parse(rt.alloc(), text).err();
     assert_eq!(rt; passed, Some(ParseError::Limit { line, name, limit }));
+    Ok(())
+}
+
+/// A 17th table, also where it passes the limit of records too.
+#[test]
+fn a_17th_table_is_one_too_many(rt: HostRuntime) -> Result<(), Fail> {
+    for size in [1, 65521] {
+        let mut text = format!(in rt.alloc(); "rolis 1\ntable t0 {size} 1\n")?;
+        for i in 1..17 {
+            let table = format!(in rt.alloc(); "table t{i} 1 1\n")?;
+            text.push_str(&table)?;
+        }
+        assert!(rt; text.len() < 1000);
+        let (line, name, limit) = (18, LimitName::Tables, 16);
+        let passed = parse(rt.alloc(), text.as_bytes()).err();
+        assert_eq!(rt; passed, Some(ParseError::Limit { line, name, limit }));
+    }
+    Ok(())
+}
+
+#[test]
+fn a_64th_stop_is_one_too_many(rt: HostRuntime) -> Result<(), Fail> {
+    let mut text = String::from_str(rt.alloc(), "rolis 1\n")?;
+    for _ in 0..64 {
+        text.push_str("stop 5\n")?;
+    }
+    assert!(rt; text.len() < 1000);
+    let (line, kind) = (65, Kind::Duplicate);
+    let fault = parse(rt.alloc(), text.as_bytes()).err();
+    assert_eq!(rt; fault, Some(ParseError::Fault { line, kind }));
     Ok(())
 }
 
@@ -151,5 +210,18 @@ fn a_script_is_read(rt: HostRuntime) -> Result<(), Fail> {
     assert!(rt; script.rows.get(0, 1).is_some() && script.lists.len() == 2);
     assert!(rt; script.lists.get(1).len() == 1 && script.events.len() == 2);
     assert_eq!(rt; *script.events.get(1), Event::Play { node: 1, stream: 2 });
+    Ok(())
+}
+
+#[test]
+fn scripts_are_printed(rt: HostRuntime) -> Result<(), Fail> {
+    for (text, printed) in PRINTED {
+        assert!(rt; text.len() < 1000);
+        let Ok(script) = parse(rt.alloc(), text.as_bytes()) else {
+            return Err("no script".into());
+        };
+        let form = print(rt.alloc(), &script)?;
+        assert_eq!(rt; form.as_slice(), printed.as_bytes(), "{text}");
+    }
     Ok(())
 }

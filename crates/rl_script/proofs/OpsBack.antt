@@ -1,0 +1,287 @@
+-- The line of an op is read as the op again.
+use Rattle.std.proofs.Common.{◌≡◌, ℕ, ◌-◌, ◌<◌, ◌≤◌, ◌==◌, List, [], ◌∷◌, All, length, map, slice_index, true, false, Option, Some, None, is_some, Result, Ok, codes, zero, suc, refl, ap, ◌∙◌, arith}
+use Rattle.std.specs.List.{list_all}
+use Rattle.std.specs.Fmt.{decimal}
+use Rattle.std.proofs.lemmas.Bool.Decides.{nat_tests}
+use Rattle.std.proofs.lemmas.List.{length-map}
+use Rattle.std.proofs.lemmas.List.Elements.{All-head, All-tail, All-nil, All-cons, All-from_recursion}
+use Rattle.rl_value.specs.Names.{is_name, is_name_byte}
+use Rattle.rl_value.specs.Tables.{Table, IsTable, IsSchema, name_of, columns_of, table_named}
+use Rattle.rl_txn.specs.Fits.{OperandFits, OpFits}
+use Rattle.rl_txn.specs.declared.op.Op.{Op}
+use Rattle.rl_txn.specs.declared.op.Op.TheVariants as op
+use Rattle.rl_txn.specs.declared.op.Operand.{Operand}
+use Rattle.rl_txn.specs.declared.op.Operand.TheVariants.{Reg, Num}
+use Rattle.rl_txn.specs.declared.op.Rel.{Rel}
+use Rattle.rl_txn.specs.declared.op.Rel.TheVariants.{Eq, Ne, Lt, Le, Gt, Ge}
+use Rattle.rl_events.specs.Text.{number_of}
+use Rattle.rl_events.specs.Words.{◌>>=◌, number, or_fault, within}
+use Rattle.rl_events.specs.declared.kind.Kind.{Kind}
+use Rattle.rl_events.specs.declared.kind.Kind.TheVariants.{Register, UnknownTable}
+use Rattle.rl_events.proofs.PrintedLemmas.{IsWord, is_seen, decimal_is_word, number_of_decimal, number_decimal, within_decimal}
+use Rattle.rl_script.specs.Fits.{IsNumber}
+use Rattle.rl_script.specs.Lines.{line_kind}
+use Rattle.rl_script.specs.Operations.{each_word, known, table_for, read_op, set_of, terms_of, add_of, sub_of, mul_of, get_of, has_of, put_of, del_of, scan_of, need_of, skip_of, out_of}
+use Rattle.rl_script.specs.Printed.{register_word, operand_word, relation_word, op_words}
+use Rattle.rl_script.specs.Read.{op_joined, read_words, with_op}
+use Rattle.rl_script.specs.Words.{number_operand, operand, register, register_of, relation}
+use Rattle.rl_script.specs.declared.draft.Draft.{Draft}
+use Rattle.rl_script.specs.declared.line.LineKind.TheVariants as line
+use Rattle.rl_script.specs.declared.line.OpWord.{OpWord}
+use Rattle.rl_script.specs.declared.line.OpWord.TheVariants as word
+
+-- registers and operands
+
+register_by : (r : ℕ) (digits : List ℕ) → r < 16 → number_of digits ≡ Some r → register_of (114 ∷ digits) ≡ Some r
+unfolding register_of
+register_by r digits small is = grind (arith, nat_tests)
+
+pub register_back : (r : ℕ) → r < 16 → register_of (register_word r) ≡ Some r
+register_back r small = register_by r (decimal r) small (number_of_decimal r (omega arith))
+
+pub register_read : (r : ℕ) → r < 16 → register (register_word r) ≡ Ok r
+register_read r small = ap (or_fault Register) (register_back r small)
+
+-- a number begins with a digit, and a register does not
+no_register : (word : List ℕ) (n : ℕ) → number_of word ≡ Some n → register_of word ≡ None
+unfolding register_of
+no_register [] n is = refl
+no_register (b ∷ word) n is = grind (arith, nat_tests)
+
+pub operand_back : (a : Operand) → OperandFits a → operand (operand_word a) ≡ Ok a
+operand_back (Reg r) small = ap (λ (o : Option ℕ). elim o [ Some r ↦ Ok (Reg r) | None ↦ number_operand (number_of (register_word r)) ]) (register_back r small)
+operand_back (Num n) small =
+    ap (λ (o : Option ℕ). elim o [ Some r ↦ Ok (Reg r) | None ↦ number_operand (number_of (decimal n)) ]) (no_register (decimal n) n (number_of_decimal n small))
+    ∙ ap number_operand (number_of_decimal n small)
+
+pub relation_back : (rel : Rel) → relation (relation_word rel) ≡ Ok rel
+relation_back Eq = refl
+relation_back Ne = refl
+relation_back Lt = refl
+relation_back Le = refl
+relation_back Gt = refl
+relation_back Ge = refl
+
+-- lists of operands and numbers
+
+one_back : {A : Type 0} (read : List ℕ → Result A Kind) → (word : List ℕ) (words : List (List ℕ)) (x : A) (xs : List A) → read word ≡ Ok x → each_word read words ≡ Ok xs → each_word read (word ∷ words) ≡ Ok (x ∷ xs)
+unfolding each_word
+one_back read word words x xs is rest =
+    ap (λ r. r >>= λ x. each_word read words >>= λ xs. Ok (x ∷ xs)) is ∙ ap (λ r. r >>= λ xs. Ok (x ∷ xs)) rest
+
+none_back : {A : Type 0} (read : List ℕ → Result A Kind) → each_word read [] ≡ Ok []
+unfolding each_word
+none_back read = refl
+
+-- words that are read as what they were printed from
+pub each_back : {A : Type 0} (read : List ℕ → Result A Kind) → (word_of : A → List ℕ) (Fits : A → Type 0) → ((x : A) → Fits x → read (word_of x) ≡ Ok x) → (xs : List A) → All Fits xs → each_word read (map word_of xs) ≡ Ok xs
+each_back read word_of Fits back [] all = none_back read
+each_back read word_of Fits back (x ∷ xs) all =
+    one_back read (word_of x) (map word_of xs) x xs (back x (All-head Fits x xs all)) (each_back read word_of Fits back xs (All-tail Fits x xs all))
+
+pub each_operand_back : (values : List Operand) → All OperandFits values → each_word operand (map operand_word values) ≡ Ok values
+each_operand_back values all = each_back operand operand_word OperandFits operand_back values all
+
+pub each_number_back : (row : List ℕ) → All IsNumber row → each_word number (map decimal row) ≡ Ok row
+each_number_back row all = each_back number decimal IsNumber number_decimal row all
+
+-- names of tables
+
+seen_name : (name : List ℕ) → list_all is_name_byte name ≡ true → list_all is_seen name ≡ true
+seen_name [] h = refl
+seen_name (b ∷ name) h = let rest = seen_name name (grind (arith, nat_tests)) in grind (arith, nat_tests)
+
+name_parts : (name : List ℕ) → is_name name ≡ true → (0 < length name) × (list_all is_name_byte name ≡ true)
+name_parts name h = (grind (arith, nat_tests), grind (arith, nat_tests))
+
+pub name_is_word : (name : List ℕ) → is_name name ≡ true → IsWord name
+name_is_word name h = let parts = name_parts name h in (parts.0, seen_name name parts.1)
+
+pub name_found : (tables : List Table) (t : ℕ) → IsSchema tables → t < length tables → table_named (name_of tables t) tables ≡ Some t
+name_found tables t schema there = schema.names t there
+
+named_at : (tables : List Table) (t : ℕ) → All IsTable tables → t < length tables → is_name (name_of tables t) ≡ true
+named_at [] t all there = absurd (omega arith)
+named_at (x ∷ tables) zero all there = (All-head IsTable x tables all).named
+named_at (x ∷ tables) (suc t) all there = named_at tables t (All-tail IsTable x tables all) (omega arith)
+
+few_columns_at : (tables : List Table) (t : ℕ) → All IsTable tables → t < length tables → columns_of tables t ≤ 4
+few_columns_at [] t all there = absurd (omega arith)
+few_columns_at (x ∷ tables) zero all there = (All-head IsTable x tables all).few_columns
+few_columns_at (x ∷ tables) (suc t) all there = few_columns_at tables t (All-tail IsTable x tables all) (omega arith)
+
+pub table_name_is_word : (tables : List Table) (t : ℕ) → IsSchema tables → t < length tables → IsWord (name_of tables t)
+table_name_is_word tables t schema there = name_is_word (name_of tables t) (named_at tables t schema.each there)
+
+pub known_back : (tables : List Table) (t : ℕ) → IsSchema tables → t < length tables → known tables (name_of tables t) ≡ Ok t
+known_back tables t schema there = ap (or_fault UnknownTable) (name_found tables t schema there)
+
+-- the table of a line that gives as many columns as it has
+pub table_for_back : (tables : List Table) (t count : ℕ) → IsSchema tables → t < length tables → count ≡ columns_of tables t → table_for tables (name_of tables t) count ≡ Ok t
+table_for_back tables t count schema there all = let found = name_found tables t schema there in grind (arith, nat_tests)
+
+pub column_back : (tables : List Table) (t c : ℕ) → IsSchema tables → t < length tables → c < columns_of tables t → within 0 (columns_of tables t - 1) (decimal c) ≡ Ok c
+column_back tables t c schema there within_table =
+    let few = few_columns_at tables t schema.each there in
+    within_decimal 0 (columns_of tables t - 1) c (omega arith) (omega arith) (omega (arith, few))
+
+-- the ops
+
+set_back : (d : ℕ) (a : Operand) → d < 16 → OperandFits a → set_of (register_word d) (operand_word a) ≡ Ok (op.Set d a)
+unfolding set_of
+set_back d a small fits =
+    ap (λ r. r >>= λ d. operand (operand_word a) >>= λ a. Ok (op.Set d a)) (register_read d small) ∙ ap (λ r. r >>= λ a. Ok (op.Set d a)) (operand_back a fits)
+
+terms_back : (d : ℕ) (a b : Operand) → d < 16 → OperandFits a → OperandFits b → terms_of (register_word d) (operand_word a) (operand_word b) ≡ Ok (d, a, b)
+unfolding terms_of
+terms_back d a b low first second =
+    ap (λ r. r >>= λ d. operand (operand_word a) >>= λ a. operand (operand_word b) >>= λ b. Ok (d, a, b)) (register_read d low)
+    ∙ ap (λ r. r >>= λ a. operand (operand_word b) >>= λ b. Ok (d, a, b)) (operand_back a first)
+    ∙ ap (λ r. r >>= λ b. Ok (d, a, b)) (operand_back b second)
+
+add_back : (d : ℕ) (a b : Operand) → d < 16 → OperandFits a → OperandFits b → add_of (register_word d) (operand_word a) (operand_word b) ≡ Ok (op.Add d a b)
+add_back d a b low first second = ap (λ r. r >>= λ t. Ok (op.Add t.0 t.1 t.2)) (terms_back d a b low first second)
+
+sub_back : (d : ℕ) (a b : Operand) → d < 16 → OperandFits a → OperandFits b → sub_of (register_word d) (operand_word a) (operand_word b) ≡ Ok (op.Sub d a b)
+sub_back d a b low first second = ap (λ r. r >>= λ t. Ok (op.Sub t.0 t.1 t.2)) (terms_back d a b low first second)
+
+mul_back : (d : ℕ) (a b : Operand) → d < 16 → OperandFits a → OperandFits b → mul_of (register_word d) (operand_word a) (operand_word b) ≡ Ok (op.Mul d a b)
+mul_back d a b low first second = ap (λ r. r >>= λ t. Ok (op.Mul t.0 t.1 t.2)) (terms_back d a b low first second)
+
+get_back : (tables : List Table) (t : ℕ) (k : Operand) (c d : ℕ) → IsSchema tables → OpFits tables (op.Get t k c d) → get_of tables (name_of tables t) (operand_word k) (decimal c) (register_word d) ≡ Ok (op.Get t k c d)
+unfolding get_of
+get_back tables t k c d schema fits =
+    ap (λ r. r >>= λ t. operand (operand_word k) >>= λ k. within 0 (columns_of tables t - 1) (decimal c) >>= λ c. register (register_word d) >>= λ d. Ok (op.Get t k c d)) (known_back tables t schema fits.0)
+    ∙ ap (λ r. r >>= λ k. within 0 (columns_of tables t - 1) (decimal c) >>= λ c. register (register_word d) >>= λ d. Ok (op.Get t k c d)) (operand_back k fits.1)
+    ∙ ap (λ r. r >>= λ c. register (register_word d) >>= λ d. Ok (op.Get t k c d)) (column_back tables t c schema fits.0 fits.2)
+    ∙ ap (λ r. r >>= λ d. Ok (op.Get t k c d)) (register_read d fits.3)
+
+has_back : (tables : List Table) (t : ℕ) (k : Operand) (d : ℕ) → IsSchema tables → OpFits tables (op.Has t k d) → has_of tables (name_of tables t) (operand_word k) (register_word d) ≡ Ok (op.Has t k d)
+unfolding has_of
+has_back tables t k d schema fits =
+    ap (λ r. r >>= λ t. operand (operand_word k) >>= λ k. register (register_word d) >>= λ d. Ok (op.Has t k d)) (known_back tables t schema fits.0)
+    ∙ ap (λ r. r >>= λ k. register (register_word d) >>= λ d. Ok (op.Has t k d)) (operand_back k fits.1)
+    ∙ ap (λ r. r >>= λ d. Ok (op.Has t k d)) (register_read d fits.2)
+
+put_back : (tables : List Table) (t : ℕ) (k : Operand) (values : List Operand) → IsSchema tables → OpFits tables (op.Put t k values) → put_of tables (name_of tables t) (operand_word k) (map operand_word values) ≡ Ok (op.Put t k values)
+unfolding put_of
+put_back tables t k values schema fits =
+    ap (λ r. r >>= λ t. operand (operand_word k) >>= λ k. each_word operand (map operand_word values) >>= λ values. Ok (op.Put t k values))
+    (table_for_back tables t (length (map operand_word values)) schema fits.0 (length-map values operand_word ∙ fits.5))
+    ∙ ap (λ r. r >>= λ k. each_word operand (map operand_word values) >>= λ values. Ok (op.Put t k values)) (operand_back k fits.1)
+    ∙ ap (λ r. r >>= λ values. Ok (op.Put t k values)) (each_operand_back values fits.2)
+
+del_back : (tables : List Table) (t : ℕ) (k : Operand) → IsSchema tables → OpFits tables (op.Del t k) → del_of tables (name_of tables t) (operand_word k) ≡ Ok (op.Del t k)
+unfolding del_of
+del_back tables t k schema fits =
+    ap (λ r. r >>= λ t. operand (operand_word k) >>= λ k. Ok (op.Del t k)) (known_back tables t schema fits.0)
+    ∙ ap (λ r. r >>= λ k. Ok (op.Del t k)) (operand_back k fits.1)
+
+scan_back : (tables : List Table) (t : ℕ) (k : Operand) (n c d : ℕ) → IsSchema tables → OpFits tables (op.Scan t k n c d) → scan_of tables (name_of tables t) (operand_word k) (decimal n) (decimal c) (register_word d) ≡ Ok (op.Scan t k n c d)
+unfolding scan_of
+scan_back tables t k n c d schema fits =
+    ap (λ r. r >>= λ t. operand (operand_word k) >>= λ k. within 1 256 (decimal n) >>= λ n. within 0 (columns_of tables t - 1) (decimal c) >>= λ c. register (register_word d) >>= λ d. Ok (op.Scan t k n c d)) (known_back tables t schema fits.0)
+    ∙ ap (λ r. r >>= λ k. within 1 256 (decimal n) >>= λ n. within 0 (columns_of tables t - 1) (decimal c) >>= λ c. register (register_word d) >>= λ d. Ok (op.Scan t k n c d)) (operand_back k fits.1)
+    ∙ ap (λ r. r >>= λ n. within 0 (columns_of tables t - 1) (decimal c) >>= λ c. register (register_word d) >>= λ d. Ok (op.Scan t k n c d)) (within_decimal 1 256 n fits.2 fits.3 (omega (arith, fits.3)))
+    ∙ ap (λ r. r >>= λ c. register (register_word d) >>= λ d. Ok (op.Scan t k n c d)) (column_back tables t c schema fits.0 fits.4)
+    ∙ ap (λ r. r >>= λ d. Ok (op.Scan t k n c d)) (register_read d fits.5)
+
+need_back : (a : Operand) (rel : Rel) (b : Operand) → OperandFits a → OperandFits b → need_of (operand_word a) (relation_word rel) (operand_word b) ≡ Ok (op.Need a rel b)
+unfolding need_of
+need_back a rel b fits next =
+    ap (λ r. r >>= λ a. relation (relation_word rel) >>= λ rel. operand (operand_word b) >>= λ b. Ok (op.Need a rel b)) (operand_back a fits)
+    ∙ ap (λ r. r >>= λ rel. operand (operand_word b) >>= λ b. Ok (op.Need a rel b)) (relation_back rel)
+    ∙ ap (λ r. r >>= λ b. Ok (op.Need a rel b)) (operand_back b next)
+
+skip_back : (a : Operand) (rel : Rel) (b : Operand) (n : ℕ) → OperandFits a → OperandFits b → 1 ≤ n → n ≤ 64 → skip_of (operand_word a) (relation_word rel) (operand_word b) (decimal n) ≡ Ok (op.Skip a rel b n)
+unfolding skip_of
+skip_back a rel b n fits next some few =
+    ap (λ r. r >>= λ a. relation (relation_word rel) >>= λ rel. operand (operand_word b) >>= λ b. within 1 64 (decimal n) >>= λ n. Ok (op.Skip a rel b n)) (operand_back a fits)
+    ∙ ap (λ r. r >>= λ rel. operand (operand_word b) >>= λ b. within 1 64 (decimal n) >>= λ n. Ok (op.Skip a rel b n)) (relation_back rel)
+    ∙ ap (λ r. r >>= λ b. within 1 64 (decimal n) >>= λ n. Ok (op.Skip a rel b n)) (operand_back b next)
+    ∙ ap (λ r. r >>= λ n. Ok (op.Skip a rel b n)) (within_decimal 1 64 n some few (omega arith))
+
+out_back : (a : Operand) → OperandFits a → out_of (operand_word a) ≡ Ok (op.Out a)
+unfolding out_of
+out_back a fits = ap (λ r. r >>= λ a. Ok (op.Out a)) (operand_back a fits)
+
+-- a line that begins with an op's word, inside a transaction
+op_joins : (draft : Draft) (first : List ℕ) (w : OpWord) (words : List (List ℕ)) (op : Op) → (slice_index first 0 == 35) ≡ false → line_kind draft.section first ≡ Some (line.Op w) → is_some draft.current ≡ true → read_op draft.schema w words ≡ Ok op → read_words draft (first ∷ words) ≡ with_op draft op
+unfolding read_words op_joined
+op_joins draft first w words op no_comment kind opened is = rw (no_comment, kind, opened, is) refl
+
+pub op_line_back : (draft : Draft) (op : Op) → IsSchema draft.schema → OpFits draft.schema op → is_some draft.current ≡ true → read_words draft (op_words draft.schema op) ≡ with_op draft op
+op_line_back draft (op.Set d a) schema fits opened = op_joins draft (codes "set") word.Set _ _ refl refl opened (set_back d a fits.0 fits.1)
+op_line_back draft (op.Add d a b) schema fits opened = op_joins draft (codes "add") word.Add _ _ refl refl opened (add_back d a b fits.0 fits.1 fits.2)
+op_line_back draft (op.Sub d a b) schema fits opened = op_joins draft (codes "sub") word.Sub _ _ refl refl opened (sub_back d a b fits.0 fits.1 fits.2)
+op_line_back draft (op.Mul d a b) schema fits opened = op_joins draft (codes "mul") word.Mul _ _ refl refl opened (mul_back d a b fits.0 fits.1 fits.2)
+op_line_back draft (op.Get t k c d) schema fits opened = op_joins draft (codes "get") word.Get _ _ refl refl opened (get_back draft.schema t k c d schema fits)
+op_line_back draft (op.Has t k d) schema fits opened = op_joins draft (codes "has") word.Has _ _ refl refl opened (has_back draft.schema t k d schema fits)
+op_line_back draft (op.Put t k values) schema fits opened = op_joins draft (codes "put") word.Put _ _ refl refl opened (put_back draft.schema t k values schema fits)
+op_line_back draft (op.Del t k) schema fits opened = op_joins draft (codes "del") word.Del _ _ refl refl opened (del_back draft.schema t k schema fits)
+op_line_back draft (op.Scan t k n c d) schema fits opened = op_joins draft (codes "scan") word.Scan _ _ refl refl opened (scan_back draft.schema t k n c d schema fits)
+op_line_back draft (op.Need a rel b) schema fits opened = op_joins draft (codes "need") word.Need _ _ refl refl opened (need_back a rel b fits.0 fits.1)
+op_line_back draft (op.Skip a rel b n) schema fits opened = op_joins draft (codes "skip") word.Skip _ _ refl refl opened (skip_back a rel b n fits.0 fits.1 fits.2 fits.3)
+op_line_back draft (op.Out a) schema fits opened = op_joins draft (codes "out") word.Out _ _ refl refl opened (out_back a fits)
+
+-- the words of an op are words
+
+pub register_is_word : (r : ℕ) → r < 16 → IsWord (register_word r)
+register_is_word r small = (omega arith, (decimal_is_word r (omega arith)).1)
+
+pub operand_is_word : (a : Operand) → OperandFits a → IsWord (operand_word a)
+operand_is_word (Reg r) small = register_is_word r small
+operand_is_word (Num n) small = decimal_is_word n small
+
+pub relation_is_word : (rel : Rel) → IsWord (relation_word rel)
+relation_is_word Eq = (omega arith, refl)
+relation_is_word Ne = (omega arith, refl)
+relation_is_word Lt = (omega arith, refl)
+relation_is_word Le = (omega arith, refl)
+relation_is_word Gt = (omega arith, refl)
+relation_is_word Ge = (omega arith, refl)
+
+-- words that things are printed as
+pub each_is_word : {A : Type 0} → (word_of : A → List ℕ) (Fits : A → Type 0) → ((x : A) → Fits x → IsWord (word_of x)) → (xs : List A) → All Fits xs → All IsWord (map word_of xs)
+each_is_word word_of Fits is [] all = All-nil IsWord
+each_is_word word_of Fits is (x ∷ xs) all =
+    All-cons IsWord (word_of x) (map word_of xs) (is x (All-head Fits x xs all)) (each_is_word word_of Fits is xs (All-tail Fits x xs all))
+
+pub operands_are_words : (values : List Operand) → All OperandFits values → All IsWord (map operand_word values)
+operands_are_words values all = each_is_word operand_word OperandFits operand_is_word values all
+
+pub numbers_are_words : (row : List ℕ) → All IsNumber row → All IsWord (map decimal row)
+numbers_are_words row all = each_is_word decimal IsNumber decimal_is_word row all
+
+pub op_words_are_words : (tables : List Table) (op : Op) → IsSchema tables → OpFits tables op → All IsWord (op_words tables op)
+op_words_are_words tables (op.Set d a) schema fits =
+    All-from_recursion IsWord (op_words tables (op.Set d a)) ((omega arith, refl), (register_is_word d fits.0, (operand_is_word a fits.1, tt)))
+op_words_are_words tables (op.Add d a b) schema fits =
+    All-from_recursion IsWord (op_words tables (op.Add d a b)) ((omega arith, refl), (register_is_word d fits.0, (operand_is_word a fits.1, (operand_is_word b fits.2, tt))))
+op_words_are_words tables (op.Sub d a b) schema fits =
+    All-from_recursion IsWord (op_words tables (op.Sub d a b)) ((omega arith, refl), (register_is_word d fits.0, (operand_is_word a fits.1, (operand_is_word b fits.2, tt))))
+op_words_are_words tables (op.Mul d a b) schema fits =
+    All-from_recursion IsWord (op_words tables (op.Mul d a b)) ((omega arith, refl), (register_is_word d fits.0, (operand_is_word a fits.1, (operand_is_word b fits.2, tt))))
+op_words_are_words tables (op.Get t k c d) schema fits =
+    let few = few_columns_at tables t schema.each fits.0 in
+    All-from_recursion IsWord (op_words tables (op.Get t k c d))
+    ((omega arith, refl), (table_name_is_word tables t schema fits.0, (operand_is_word k fits.1, (decimal_is_word c (omega (arith, few, fits.2)), (register_is_word d fits.3, tt)))))
+op_words_are_words tables (op.Has t k d) schema fits =
+    All-from_recursion IsWord (op_words tables (op.Has t k d)) ((omega arith, refl), (table_name_is_word tables t schema fits.0, (operand_is_word k fits.1, (register_is_word d fits.2, tt))))
+op_words_are_words tables (op.Put t k values) schema fits =
+    All-cons IsWord (codes "put") (name_of tables t ∷ operand_word k ∷ map operand_word values) (omega arith, refl)
+    (All-cons IsWord (name_of tables t) (operand_word k ∷ map operand_word values) (table_name_is_word tables t schema fits.0)
+    (All-cons IsWord (operand_word k) (map operand_word values) (operand_is_word k fits.1) (operands_are_words values fits.2)))
+op_words_are_words tables (op.Del t k) schema fits =
+    All-from_recursion IsWord (op_words tables (op.Del t k)) ((omega arith, refl), (table_name_is_word tables t schema fits.0, (operand_is_word k fits.1, tt)))
+op_words_are_words tables (op.Scan t k n c d) schema fits =
+    let few = few_columns_at tables t schema.each fits.0 in
+    All-from_recursion IsWord (op_words tables (op.Scan t k n c d))
+    ((omega arith, refl), (table_name_is_word tables t schema fits.0, (operand_is_word k fits.1, (decimal_is_word n (omega (arith, fits.3)), (decimal_is_word c (omega (arith, few, fits.4)), (register_is_word d fits.5, tt))))))
+op_words_are_words tables (op.Need a rel b) schema fits =
+    All-from_recursion IsWord (op_words tables (op.Need a rel b)) ((omega arith, refl), (operand_is_word a fits.0, (relation_is_word rel, (operand_is_word b fits.1, tt))))
+op_words_are_words tables (op.Skip a rel b n) schema fits =
+    All-from_recursion IsWord (op_words tables (op.Skip a rel b n))
+    ((omega arith, refl), (operand_is_word a fits.0, (relation_is_word rel, (operand_is_word b fits.1, (decimal_is_word n (omega (arith, fits.3)), tt)))))
+op_words_are_words tables (op.Out a) schema fits =
+    All-from_recursion IsWord (op_words tables (op.Out a)) ((omega arith, refl), (operand_is_word a fits, tt))

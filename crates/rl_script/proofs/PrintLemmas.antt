@@ -1,0 +1,107 @@
+-- The text of lines that follow one another.
+use Rattle.std.proofs.Common.{◌≡◌, ℕ, ◌+◌, ◌<◌, ◌≤◌, List, [], ◌∷◌, ◌++◌, Some, length, map, slice_get, take, codes, ap, sym, refl, ◌∙◌, zero, suc, add-one, append-nil, append_assoc, arith}
+use Rattle.std.specs.List.{flat_map, range_with_len}
+use Rattle.std.specs.Fmt.{decimal}
+use Rattle.std.proofs.lemmas.Grind.{flat_map-append}
+use Rattle.std.proofs.lemmas.List.{length-take, take_all, take_more}
+use Rattle.std.proofs.lemmas.List.Folds.{flat_map-map}
+use Rattle.std.proofs.lemmas.Option.{get_or_from_slice_get, slice_get_within}
+use Rattle.rl_value.specs.Tables.{Table, name_of, size_of, columns_of}
+use Rattle.rl_txn.specs.declared.op.Op.{Op}
+use Rattle.rl_events.specs.Printed.{event_line, event_words, line_of}
+use Rattle.rl_events.specs.declared.event.Event.{Event}
+use Rattle.rl_script.specs.Printed.{Line, event_lines, header_line, list_lines, printed, rows_of_table, setting_lines, table_line, text_of, txn_lines}
+use Rattle.rl_script.specs.declared.script.Script.{Script}
+use Rattle.rl_txn.proofs.Folds.{range_push}
+
+-- each word after the first comes after a space
+line_by_words : (word : List ℕ) (words : List (List ℕ)) → line_of (word ∷ words) ≡ word ++ flat_map (λ w. 32 ∷ w) words
+line_by_words word [] = sym (append-nil word)
+line_by_words word (next ∷ words) = ap (λ t. word ++ 32 ∷ t) (line_by_words next words)
+
+-- a line that goes on with words
+pub line_more : {A : Type 0} (word_of : A → List ℕ) → (first : List ℕ) (words : List (List ℕ)) (xs : List A) (before old new : List ℕ) → old ≡ before ++ line_of (first ∷ words) → new ≡ old ++ flat_map (λ x. 32 ∷ word_of x) xs → new ≡ before ++ line_of (first ∷ words ++ map word_of xs)
+line_more word_of first words xs before old new is more =
+    let rest : flat_map (λ w. 32 ∷ w) (words ++ map word_of xs) ≡ flat_map (λ w. 32 ∷ w) words ++ flat_map (λ x. 32 ∷ word_of x) xs =
+    flat_map-append (λ w. 32 ∷ w) words (map word_of xs) ∙ ap (λ t. flat_map (λ w. 32 ∷ w) words ++ t) (flat_map-map (λ w. 32 ∷ w) word_of xs) in
+    let whole : line_of (first ∷ words ++ map word_of xs) ≡ line_of (first ∷ words) ++ flat_map (λ x. 32 ∷ word_of x) xs =
+    line_by_words first (words ++ map word_of xs) ∙ ap (λ t. first ++ t) rest
+    ∙ sym (append_assoc first (flat_map (λ w. 32 ∷ w) words) (flat_map (λ x. 32 ∷ word_of x) xs))
+    ∙ ap (λ t. t ++ flat_map (λ x. 32 ∷ word_of x) xs) (sym (line_by_words first words)) in
+    more ∙ ap (λ t. t ++ flat_map (λ x. 32 ∷ word_of x) xs) is ∙ append_assoc before (line_of (first ∷ words)) (flat_map (λ x. 32 ∷ word_of x) xs)
+    ∙ ap (λ t. before ++ t) (sym whole)
+
+text_of-append : (xs ys : List Line) → text_of (xs ++ ys) ≡ text_of xs ++ text_of ys
+text_of-append xs ys = flat_map-append (λ words. line_of words ++ 10 ∷ []) xs ys
+
+-- a text that goes on with lines
+pub text_joined : (xs ys zs : List Line) (before old new : List ℕ) → zs ≡ xs ++ ys → old ≡ before ++ text_of xs → new ≡ old ++ text_of ys → new ≡ before ++ text_of zs
+text_joined xs ys zs before old new same is more =
+    more ∙ ap (λ t. t ++ text_of ys) is ∙ append_assoc before (text_of xs) (text_of ys) ∙ ap (λ t. before ++ t) (sym (text_of-append xs ys) ∙ ap text_of (sym same))
+
+-- a text of a line for each thing, after the last
+pub lines_done : {X : Type 0} (f : X → Line) → (xs items : List X) (i : ℕ) (before new : List ℕ) → items ≡ xs → length items ≤ i → new ≡ before ++ flat_map (λ x. line_of (f x) ++ 10 ∷ []) (take i items) → new ≡ before ++ text_of (map f xs)
+lines_done f xs items i before new same past is =
+    is ∙ ap (λ ys. before ++ flat_map (λ x. line_of (f x) ++ 10 ∷ []) ys) (take_all i items past ∙ same) ∙ ap (λ t. before ++ t) (sym (flat_map-map (λ words. line_of words ++ 10 ∷ []) f xs))
+
+-- the text of the lines that each thing has
+pub text_by_part : {X : Type 0} (f : X → List Line) → (xs : List X) → text_of (flat_map f xs) ≡ flat_map (λ x. text_of (f x)) xs
+text_by_part f [] = refl
+text_by_part f (x ∷ xs) = text_of-append (f x) (flat_map f xs) ∙ ap (λ t. text_of (f x) ++ t) (text_by_part f xs)
+
+-- a text of some lines for each thing, after the last
+pub parts_done : {X : Type 0} (f : X → List Line) → (xs items : List X) (i : ℕ) (before new : List ℕ) → items ≡ xs → length items ≤ i → new ≡ before ++ flat_map (λ x. text_of (f x)) (take i items) → new ≡ before ++ text_of (flat_map f xs)
+parts_done f xs items i before new same past is =
+    is ∙ ap (λ ys. before ++ flat_map (λ x. text_of (f x)) ys) (take_all i items past ∙ same) ∙ ap (λ t. before ++ t) (sym (text_by_part f xs))
+
+-- lines that go on with those of the next number
+pub text_over_range : (f : ℕ → List Line) (n : ℕ) (before old new : List ℕ) → old ≡ before ++ text_of (flat_map f (range_with_len 0 n)) → new ≡ old ++ text_of (f n) → new ≡ before ++ text_of (flat_map f (range_with_len 0 (n + 1)))
+text_over_range f n before old new is more =
+    let one : range_with_len 0 (n + 1) ≡ range_with_len 0 n ++ n ∷ [] = rw add-one (range_push 0 n ∙ ap (λ x. range_with_len 0 n ++ x ∷ []) (omega arith)) in
+    text_joined (flat_map f (range_with_len 0 n)) (f n) (flat_map f (range_with_len 0 (n + 1))) before old new
+    (ap (flat_map f) one ∙ flat_map-append f (range_with_len 0 n) (n ∷ []) ∙ ap (λ ls. flat_map f (range_with_len 0 n) ++ ls) (append-nil (f n))) is more
+
+table_push : (tables : List Table) (t : ℕ) → t < length tables → map table_line (take (suc t) tables) ≡ map table_line (take t tables) ++ (codes "table" ∷ name_of tables t ∷ decimal (size_of tables t) ∷ decimal (columns_of tables t) ∷ []) ∷ []
+table_push [] t there = absurd (omega arith)
+table_push (x ∷ tables) zero there = refl
+table_push (x ∷ tables) (suc t) there = ap (λ ls. table_line x ∷ ls) (table_push tables t (omega arith))
+
+-- the lines of tables go on with the next table's
+pub table_more : (tables : List Table) (t : ℕ) → t < length tables → map table_line (take (t + 1) tables) ≡ map table_line (take t tables) ++ (codes "table" ∷ name_of tables t ∷ decimal (size_of tables t) ∷ decimal (columns_of tables t) ∷ []) ∷ []
+table_more tables t there = rw add-one (table_push tables t there)
+
+list_push : (tables : List Table) (worker : ℕ) (lists : List (List (List Op))) (list : List (List Op)) → list_lines tables worker (lists ++ list ∷ []) ≡ list_lines tables worker lists ++ flat_map (txn_lines tables (worker + length lists)) list
+list_push tables worker [] list = append-nil (flat_map (txn_lines tables worker) list) ∙ ap (λ w. flat_map (txn_lines tables w) list) (omega arith)
+list_push tables worker (x ∷ lists) list =
+    ap (λ ls. flat_map (txn_lines tables worker) x ++ ls) (list_push tables (worker + 1) lists list ∙ ap (λ w. list_lines tables (worker + 1) lists ++ flat_map (txn_lines tables w) list) (omega arith))
+    ∙ sym (append_assoc (flat_map (txn_lines tables worker) x) (list_lines tables (worker + 1) lists) (flat_map (txn_lines tables (worker + length (x ∷ lists))) list))
+
+-- the lines of lists go on with the next list's
+pub list_more : (tables : List Table) (lists : List (List (List Op))) (i : ℕ) (list : List (List Op)) → slice_get lists i ≡ Some list → list_lines tables 1 (take (i + 1) lists) ≡ list_lines tables 1 (take i lists) ++ flat_map (txn_lines tables (i + 1)) list
+list_more tables lists i list is =
+    let there = slice_get_within lists i list is in
+    ap (list_lines tables 1) (take_more lists i list there ∙ ap (λ x. take i lists ++ x ∷ []) (get_or_from_slice_get lists i list list is))
+    ∙ list_push tables 1 (take i lists) list ∙ ap (λ w. list_lines tables 1 (take i lists) ++ flat_map (txn_lines tables w) list) (omega (arith, there, length-take i lists))
+
+-- the events after `events`
+pub events_done : (events : List Event) (i : ℕ) (before new : List ℕ) → 0 < length events → length events ≤ i → new ≡ before ++ codes "events\n" ++ flat_map (λ e. event_line e ++ 10 ∷ []) (take i events) → new ≡ before ++ text_of (event_lines events)
+events_done [] i before new some past is = absurd (omega arith)
+events_done (event ∷ events) i before new some past is =
+    is ∙ ap (λ ys. before ++ codes "events\n" ++ flat_map (λ e. event_line e ++ 10 ∷ []) ys) (take_all i (event ∷ events) past)
+    ∙ append_assoc before (codes "events\n") (flat_map (λ e. event_line e ++ 10 ∷ []) (event ∷ events))
+    ∙ ap (λ t. before ++ (codes "events\n" ++ t)) (sym (flat_map-map (λ words. line_of words ++ 10 ∷ []) event_words (event ∷ events)))
+
+-- the parts of a script's text
+pub script_done : (script : Script) (first settings tables rows lists text : List ℕ) → first ≡ codes "rolis 1\n" → settings ≡ first ++ text_of (setting_lines script) → tables ≡ settings ++ text_of (map table_line script.schema) → rows ≡ tables ++ text_of (flat_map (rows_of_table script.schema script.rows) (range_with_len 0 (length script.schema))) → lists ≡ rows ++ text_of (list_lines script.schema 1 script.lists) → text ≡ lists ++ text_of (event_lines script.events) → text ≡ printed script
+script_done script first settings tables rows lists text a b c d e f =
+    let one = join (header_line ∷ []) (setting_lines script) first settings a b in
+    let two = join (header_line ∷ setting_lines script) (map table_line script.schema) settings tables one c in
+    let three = join (header_line ∷ setting_lines script ++ map table_line script.schema) all_rows tables rows two d in
+    let four = join (header_line ∷ setting_lines script ++ map table_line script.schema ++ all_rows) (list_lines script.schema 1 script.lists) rows lists three e in
+    join (header_line ∷ setting_lines script ++ map table_line script.schema ++ all_rows ++ list_lines script.schema 1 script.lists) (event_lines script.events) lists text four f
+  where
+    all_rows : List Line
+    all_rows = flat_map (rows_of_table script.schema script.rows) (range_with_len 0 (length script.schema))
+
+    join : (xs ys : List Line) (old new : List ℕ) → old ≡ text_of xs → new ≡ old ++ text_of ys → new ≡ text_of (xs ++ ys)
+    join xs ys old new is more = text_joined xs ys (xs ++ ys) [] old new refl is more

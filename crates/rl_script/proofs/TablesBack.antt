@@ -1,0 +1,114 @@
+-- The lines of the tables are read as the tables again.
+use Rattle.std.proofs.Common.{◌≡◌, ℕ, ◌+◌, ◌<◌, ◌≤◌, ◌==◌, Bool, true, false, cond, List, [], ◌∷◌, ◌++◌, length, map, get_or, slice_get, Option, None, Some, is_some, Ok, Err, codes, suc, refl, ap, sym, subst, ◌∙◌, arith, append-nil, length-append, if◌then◌else◌}
+use Rattle.std.specs.Prelude.{nat_lt}
+use Rattle.std.specs.Fmt.{decimal}
+use Rattle.std.specs.List.{position_from}
+use Rattle.std.specs.Option.{option_map_or}
+use Rattle.std.specs.Str.{bytes_eq}
+use Rattle.std.proofs.lemmas.Bool.Decides.{nat_tests}
+use Rattle.std.proofs.lemmas.List.{append_assoc}
+use Rattle.std.proofs.lemmas.List.Sums.{sum_by-cons, sum_by-append}
+use Rattle.rl_base.specs.declared.limit.LimitName.TheVariants as limits
+use Rattle.rl_value.specs.Tables.{Table, IsTable, IsSchema, name_of, table_named, record_count}
+use Rattle.rl_events.specs.Words.{◌>>=◌, within}
+use Rattle.rl_events.specs.declared.kind.Kind.TheVariants.{Duplicate, Name}
+use Rattle.rl_events.proofs.PrintedLemmas.{within_decimal}
+use Rattle.rl_script.specs.declared.draft.Draft.{Draft}
+use Rattle.rl_script.specs.declared.draft.Section.{Section}
+use Rattle.rl_script.specs.declared.draft.Section.TheVariants as section
+use Rattle.rl_script.specs.declared.fault.Problem.TheVariants.{Fault, Limit}
+use Rattle.rl_script.specs.declared.line.LineKind.TheVariants as line
+use Rattle.rl_script.specs.Answers.{as_problem}
+use Rattle.rl_script.specs.Sections.{is_before_requests}
+use Rattle.rl_script.specs.Printed.{table_line}
+use Rattle.rl_script.specs.Read.{declared, joined, with_table}
+use Rattle.rl_script.proofs.LinesBack.{reads, kind_line, no_lines, one_line}
+
+-- the place at which a list has something, in a longer list
+found_earlier : (p : Table → Bool) (i k : ℕ) (tables more : List Table) → position_from p i tables ≡ Some k → (position_from p i (tables ++ more) ≡ Some k) × (k < i + length tables)
+found_earlier p i k [] more h = absurd (let e : None ≡ Some k = h in cc)
+found_earlier p i k (t ∷ tables) more h = go (p t) h (λ later. found_earlier p (i + 1) k tables more later)
+  where
+    go : (b : Bool) → cond b (Some i) (position_from p (i + 1) tables) ≡ Some k → (position_from p (i + 1) tables ≡ Some k → (position_from p (i + 1) (tables ++ more) ≡ Some k) × (k < i + 1 + length tables)) → (cond b (Some i) (position_from p (i + 1) (tables ++ more)) ≡ Some k) × (k < i + suc (length tables))
+    go true here later = (here, let same : i ≡ k = cc in omega arith)
+    go false here later = ((later here).0, omega (arith, (later here).1))
+
+at_once : (front : List Table) (x : Table) (more : List Table) → slice_get (front ++ x ∷ more) (length front) ≡ Some x
+at_once [] x more = refl
+at_once (y ∷ front) x more = at_once front x more
+
+-- a table whose name is its own is none of those before it
+new_name : (front : List Table) (x : Table) (more : List Table) → IsSchema (front ++ x ∷ more) → table_named x.name front ≡ None
+new_name front x more all = go (table_named x.name front) refl
+  where
+    name_is : name_of (front ++ x ∷ more) (length front) ≡ x.name
+    name_is = ap (λ o. option_map_or (λ table. table.name) o []) (at_once front x more)
+
+    own : table_named x.name (front ++ x ∷ more) ≡ Some (length front)
+    own = subst (λ (name : List ℕ). table_named name (front ++ x ∷ more) ≡ Some (length front)) name_is (all.names (length front) (omega (arith, length-append front (x ∷ more))))
+
+    go : (o : Option ℕ) → table_named x.name front ≡ o → o ≡ None
+    go None h = refl
+    go (Some k) h =
+        let there = found_earlier (λ t. bytes_eq x.name t.name) 0 k front (x ∷ more) h in
+        let same : k ≡ length front = let e : Some k ≡ Some (length front) = sym there.0 ∙ own in cc in
+        absurd (omega (arith, there.1))
+
+joined_back : (draft : Draft) (name : List ℕ) (size columns : ℕ) → table_named name draft.schema ≡ None → length draft.schema < 16 → record_count draft.schema + size ≤ 65536 → joined draft name size columns ≡ Ok (with_table draft name size columns)
+joined_back draft name size columns new few fits =
+    let not_full : (length draft.schema == 16) ≡ false = grind (arith, nat_tests) in
+    let room : nat_lt 65536 (record_count draft.schema + size) ≡ false = grind (arith, nat_tests) in
+    ap (λ o. if is_some o then Err (Fault Duplicate)
+    else (if length draft.schema == 16 then Err (Limit limits.Tables 16)
+    else (if nat_lt 65536 (record_count draft.schema + size) then Err (Limit limits.Records 65536)
+    else Ok (with_table draft name size columns)))) new
+    ∙ ap (λ b. if b then Err (Limit limits.Tables 16)
+    else (if nat_lt 65536 (record_count draft.schema + size) then Err (Limit limits.Records 65536)
+    else Ok (with_table draft name size columns))) not_full
+    ∙ ap (λ b. if b then Err (Limit limits.Records 65536) else Ok (with_table draft name size columns)) room
+
+declared_back : (draft : Draft) (table : Table) → IsTable table → table_named table.name draft.schema ≡ None → length draft.schema < 16 → record_count draft.schema + table.size ≤ 65536
+    → declared draft table.name (decimal table.size) (decimal table.columns) ≡ Ok (with_table draft table.name table.size table.columns)
+unfolding declared
+declared_back draft table ok new few fits =
+    ap (λ b. (if b then Ok table.name else Err (Fault Name)) >>= λ name. as_problem (within 1 65536 (decimal table.size)) >>= λ size. as_problem (within 1 4 (decimal table.columns)) >>= λ columns. joined draft name size columns) ok.named
+    ∙ ap (λ r. as_problem r >>= λ size. as_problem (within 1 4 (decimal table.columns)) >>= λ columns. joined draft table.name size columns) (within_decimal 1 65536 table.size ok.some_keys ok.few_keys (omega (arith, ok.few_keys)))
+    ∙ ap (λ r. as_problem r >>= λ columns. joined draft table.name table.size columns) (within_decimal 1 4 table.columns ok.some_columns ok.few_columns (omega (arith, ok.few_columns)))
+    ∙ joined_back draft table.name table.size table.columns new few fits
+
+-- what the lines of some tables are read as
+pub record TablesRead (draft : Draft) (tables : List Table) : Type 0 where
+  pub at : Section
+  pub early : is_before_requests at ≡ true
+  pub kept : draft.section ≡ section.Tables → at ≡ section.Tables
+  pub there : 0 < length tables → at ≡ section.Tables
+  pub is : reads draft (map table_line tables) ≡ Ok (record draft { section = at; schema = draft.schema ++ tables })
+
+pub tables_back : (draft : Draft) (tables all : List Table) → is_before_requests draft.section ≡ true → draft.schema ++ tables ≡ all → IsSchema all → TablesRead draft tables
+tables_back draft [] all early whole ok = record {
+  at = draft.section;
+  early = early;
+  kept = λ same. same;
+  there = λ some. absurd (omega arith);
+  is = no_lines draft ∙ ap (λ schema. Ok (record draft { schema = schema })) (sym (append-nil draft.schema));
+}
+tables_back draft (x ∷ tables) all early whole ok =
+    let parts : IsSchema (draft.schema ++ x ∷ tables) = subst IsSchema (sym whole) ok in
+    let one : IsTable x = subst IsTable (element draft.schema x tables) (parts.each (length draft.schema) x (omega (arith, length-append draft.schema (x ∷ tables)))) in
+    let few : length draft.schema < 16 = omega (arith, parts.few, length-append draft.schema (x ∷ tables)) in
+    let fits : record_count draft.schema + x.size ≤ 65536 = omega (arith, parts.records, sum_by-append (λ (t : Table). t.size) draft.schema (x ∷ tables), sum_by-cons (λ (t : Table). t.size) x tables) in
+    let next : Draft = with_table draft x.name x.size x.columns in
+    let rest = tables_back next tables all refl (append_assoc draft.schema (x ∷ []) tables ∙ whole) ok in
+    record {
+      at = rest.at;
+      early = rest.early;
+      kept = λ same. rest.kept refl;
+      there = λ some. rest.kept refl;
+      is =
+          one_line draft next (table_line x) (map table_line tables) (kind_line draft (codes "table") (x.name ∷ decimal x.size ∷ decimal x.columns ∷ []) line.Table refl refl early ∙ declared_back draft x one (new_name draft.schema x tables parts) few fits)
+          ∙ rest.is ∙ ap (λ schema. Ok (record draft { section = rest.at; schema = schema })) (append_assoc draft.schema (x ∷ []) tables);
+    }
+  where
+    element : (front : List Table) (x : Table) (more : List Table) → get_or (front ++ x ∷ more) (length front) x ≡ x
+    element [] x more = refl
+    element (y ∷ front) x more = element front x more
