@@ -28,7 +28,8 @@ use Rattle.rl_txn.proofs.RowSets.{places_total, same_place}
 use Rattle.rl_txn.proofs.Known.{get_after}
 use Rattle.rl_txn.proofs.Evals.{op_same}
 use Rattle.rl_worker.specs.Phases.{Answer, Read, Rec, has, row_at}
-use Rattle.rl_worker.specs.Items.{Item, AllRows, or_row, apply, Serial, Rising, Distinct, indexes, upto}
+use Rattle.rl_worker.specs.Items.{Item}
+use Rattle.rl_worker.proofs.OwnLaw.{AllRows, or_row, apply, Serial, Rising, Distinct, indexes, upto}
 use Rattle.rl_worker.specs.Acts.{no_rec}
 use Rattle.rl_worker.specs.Opening.{cells_of, row_of, overlay_of, install_of, opening_recs, setting_of, item_of, items_of, CoreFits}
 use Rattle.rl_worker.proofs.Basics.{has_row}

@@ -1,7 +1,7 @@
 -- What holds between any two acts.
 use Rattle.std.proofs.Common.{◌≡◌, ◌⊎◌, ℕ, ◌<◌, ◌≤◌, List, [], ◌∷◌, ◌++◌, length, take, Bool, true, false, not, ◌==◌, ◌&&◌, Option, Some, None}
 use Rattle.rl_worker.proofs.States.{Answer, Read, Install, Status, Drawn, Ends, Phase, Rest, Asking, Wanting, Loading, Locking, Validating, Storing, Refusing, State, Setting, has, row_at, live, decided}
-pub use Rattle.rl_worker.specs.Items.{Distinct, Widths}
+pub use Rattle.rl_worker.proofs.OwnLaw.{Distinct, Widths}
 
 -- what a phase holds
 abbrev pub held : Phase → ℕ → Bool

@@ -14,6 +14,7 @@ pub mod Made
 pub mod Numbers
 pub mod OneRow
 pub mod Openings
+pub mod OwnLaw
 pub mod Places
 pub mod Readings
 pub mod Scripts

@@ -6,7 +6,7 @@ use Rattle.rl_worker.proofs.States.{Answer, Read, Install, Status, Void, Drawn, 
 use Rattle.rl_worker.proofs.Inv.{held, stores, pending, settled_by, settled, Distinct, Version, Alone, Seen, AllAlone, ReadsOk, Knows, Inv}
 use Rattle.rl_worker.proofs.Basics.{by_upd}
 use Rattle.rl_worker.proofs.Keeps.{Keeps, knows_kept, final_kept}
-pub use Rattle.rl_worker.specs.Items.{Lawful}
+pub use Rattle.rl_worker.proofs.OwnLaw.{Lawful}
 
 pub decided_lives : (s : Status) → decided s ≡ true → live s ≡ true
 decided_lives Void h = h

@@ -2,7 +2,8 @@
 use Rattle.std.proofs.Common.{◌≡◌, ◌≢◌, ℕ, zero, suc, ◌<◌, ◌≤◌, List, [], ◌∷◌, length, get_or, true, ◌==◌, nat_lt, Option, Some, None, refl, sym, ap, subst, arith, inl, inr, true≢false, length-set}
 use Rattle.std.proofs.lemmas.Bool.Decides.{eqb_tells}
 use Rattle.rl_worker.proofs.States.{Answer, Read, Install, Rec, Outcome, Wants, Ends, Phase, Rest, Asking, Wanting, Loading, Locking, Validating, Storing, Refusing, Setting, asked, other, upd}
-use Rattle.rl_worker.specs.Acts.{Moved, target, first_load_of, confirm_of, lock_of, moved, Core, no_rec, next_after, made_after, stamps_by, AllUnder, IsFalling, DrawnAbove, IsBelowNext, after, phase_of, micro_at, opening, idle, resting, micro, passing, settle, begin, step, step_on, is_done, may, Turn, Step, Idle, turn, run, AllRest}
+use Rattle.rl_worker.specs.Acts.{Moved, target, first_load_of, confirm_of, lock_of, moved, Core, no_rec, next_after, made_after, stamps_by, AllUnder, IsFalling, DrawnAbove, IsBelowNext, after, phase_of, micro_at, opening, idle, resting, micro, passing, settle, begin, step, step_on, is_done, may, Turn, Step, Idle, turn, run}
+use Rattle.rl_worker.proofs.OwnLaw.{AllRest}
 use Rattle.rl_worker.proofs.Whole.{there}
 use Rattle.rl_worker.proofs.Basics.{by_upd}
 use Rattle.rl_worker.proofs.Acts.{by_test}

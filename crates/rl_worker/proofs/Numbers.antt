@@ -2,7 +2,8 @@
 use Rattle.std.proofs.Common.{◌≡◌, ◌≢◌, ℕ, zero, suc, ◌+◌, ◌<◌, ◌≤◌, List, [], ◌∷◌, ◌++◌, length, get_or, ◌==◌, nat_lt, if◌then◌else◌, Option, Some, None, refl, sym, ap, ◌∙◌, arith, inl, inr, length-set}
 use Rattle.std.proofs.lemmas.Bool.Decides.{eqb_tells}
 use Rattle.rl_worker.proofs.States.{Answer, Read, Install, Rec, Outcome, Wants, Ends, Phase, Rest, Asking, Wanting, Loading, Locking, Validating, Storing, Refusing, Setting, asked, other, upd}
-use Rattle.rl_worker.specs.Items.{Item, place, Rising, indexes, upto, InLists}
+use Rattle.rl_worker.specs.Items.{Item, place}
+use Rattle.rl_worker.proofs.OwnLaw.{Rising, indexes, upto, InLists}
 use Rattle.rl_worker.specs.Acts.{Moved, target, first_load_of, confirm_of, lock_of, moved, Core, no_rec, next_after, decided_after, after, phase_of, micro_at, opening, idle, resting}
 use Rattle.rl_worker.proofs.Basics.{by_upd, upd_same, upd_other}
 use Rattle.rl_worker.proofs.Acts.{by_test, test_lt}

@@ -3,7 +3,8 @@ use Rattle.std.proofs.Common.{◌≡◌, ◌≢◌, ℕ, zero, suc, ◌+◌, ◌
 use Rattle.std.proofs.lemmas.Bool.Decides.{eqb_tells, nat_tests}
 use mathlib.Core.Path.{fun_ext}
 use Rattle.rl_worker.proofs.States.{Read, Void, Decided, Entry, State, Setting, upd, has, row_at, decided}
-use Rattle.rl_worker.specs.Items.{Item, AllRows, Meets, or_row, Serial, Rising, place}
+use Rattle.rl_worker.specs.Items.{Item, place}
+use Rattle.rl_worker.proofs.OwnLaw.{AllRows, Meets, or_row, Serial, Rising}
 use Rattle.rl_worker.proofs.Inv.{Version, Alone, Seen, AllAlone, Inv}
 use Rattle.rl_worker.proofs.Local.{Lawful, decided_lives}
 use Rattle.rl_worker.proofs.Basics.{has_row, upd_same, upd_other}

@@ -21,8 +21,9 @@ use Rattle.rl_txn.specs.declared.eval.Wants.TheVariants.{Read as WantsRead, Ende
 use Rattle.rl_txn.specs.declared.write.End.{End}
 use Rattle.rl_txn.specs.declared.write.Write.{Write}
 use Rattle.rl_worker.specs.Phases.{Answer, Read, Install, Rec, Wants, Ends, Rest, Setting, has}
-use Rattle.rl_worker.specs.Items.{Distinct, Widths, Lawful}
-use Rattle.rl_worker.specs.Acts.{no_rec, AllFree, AllRest, Opens, RestAt}
+use Rattle.rl_worker.proofs.OwnLaw.{Distinct, Widths, Lawful}
+use Rattle.rl_worker.specs.Acts.{no_rec}
+use Rattle.rl_worker.proofs.OwnLaw.{AllFree, AllRest, Opens, RestAt}
 use Rattle.rl_worker.specs.Opening.{cells_of, overlay_of, install_of, outcome_of, outcome, request, asks, opening_rec, opening_recs, setting_of, first_of, at_rest, CoreFits}
 use Rattle.rl_worker.proofs.Writes.{RowFits, WriteFits, WritesFit, run_fits, run_distinct, place_of_write}
 

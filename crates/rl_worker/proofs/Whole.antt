@@ -1,8 +1,9 @@
 -- Every schedule.
 use Rattle.std.proofs.Common.{◌≡◌, ℕ, zero, suc, ◌<◌, List, [], ◌∷◌, length, get_or, Bool, true, false, nat_lt, ◌&&◌, None, refl, sym, ap, ◌∙◌, arith, inl, true≢false, length-set}
 use Rattle.rl_worker.proofs.States.{Rec, Void, Entry, Phase, Rest, Asking, Wanting, Loading, Locking, Validating, Storing, Refusing, State, Setting, decided}
-use Rattle.rl_worker.specs.Items.{Serial, Rising, Lawful, InLists}
-use Rattle.rl_worker.specs.Acts.{AllTrue, Core, no_rec, phase_of, micro, passing, resting, settle, begin, step, step_on, is_done, may, idle, Turn, Step, Idle, turn, run, target, moved, AllFree, AllRest, opening, Opens}
+use Rattle.rl_worker.proofs.OwnLaw.{Serial, Rising, Lawful, InLists}
+use Rattle.rl_worker.specs.Acts.{AllTrue, Core, no_rec, phase_of, micro, passing, resting, settle, begin, step, step_on, is_done, may, idle, Turn, Step, Idle, turn, run, target, moved, opening}
+use Rattle.rl_worker.proofs.OwnLaw.{AllFree, AllRest, Opens}
 use Rattle.rl_worker.proofs.Inv.{Inv, Knows}
 use Rattle.rl_worker.proofs.Keeps.{Keeps, knows_kept, final_kept}
 use Rattle.rl_worker.proofs.Local.{decided_lives}

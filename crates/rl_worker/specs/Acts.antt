@@ -1,6 +1,6 @@
 -- The records and the workers as lists, and what one step does.
 use Rattle.std.specs.Prelude.{◌≡◌, ◌≢◌, ℕ, suc, ◌<◌, List, [], ◌∷◌, ◌++◌, length, get_or, set, Bool, true, false, not, ◌&&◌, ◌==◌, nat_lt, if◌then◌else◌, Option, Some, None}
-use Rattle.rl_worker.specs.Phases.{Answer, Read, Install, Rec, Ends, Phase, Rest, Asking, Wanting, Loading, Locking, Validating, Storing, Refusing, Setting, has, with_read, asked, other}
+use Rattle.rl_worker.specs.Phases.{Answer, Read, Install, Rec, Phase, Rest, Asking, Wanting, Loading, Locking, Validating, Storing, Refusing, Setting, with_read, asked, other}
 use Rattle.rl_worker.specs.Items.{Item, place}
 
 -- why an attempt was refused: the holder then and the stamp found, or the stamp that it saw first beside them
@@ -234,28 +234,9 @@ abbrev pub run : Setting → Core → List Turn → Core
 run S c [] = c
 run S c (t ∷ ts) = run S (turn S c t) ts
 
--- at the opening: these records, nobody holds one, and each worker is at rest
-abbrev pub AllFree : List Rec → Type 0
-AllFree [] = ℕ
-AllFree (x ∷ xs) = (x.holder ≡ None) × AllFree xs
-
-abbrev pub AllRest : List Phase → Type 0
-AllRest [] = ℕ
-AllRest (p ∷ ps) = (resting p ≡ true) × AllRest ps
-
+-- the core at the opening: these records and workers, and nothing decided
 abbrev pub opening : Setting → List Rec → List Phase → Core
 opening S recs workers = record { recs = recs; workers = workers; next = S.base; decided = []; refusals = []; made = [] }
-
--- the setting is that of these records
-pub record Opens (S : Setting) (recs : List Rec) (workers : List Phase) : Type 0 where
-  pub free : AllFree recs
-  pub rests : AllRest workers
-  pub start_is : (r : ℕ) → S.start r ≡ get_or recs r no_rec
-  pub inside : (w q : ℕ) (reads : List Read) (answer : Answer) (writes : List Install) → S.ask w q reads ≡ Ends answer writes → (r : ℕ) → has r writes ≡ true → r < length recs
-
--- each worker rests before its first request
-abbrev pub RestAt : (ℕ → ℕ) → List Phase → Type 0
-RestAt first workers = (w : ℕ) → w < length workers → get_or workers w (Rest 0) ≡ Rest (first w)
 
 -- no attempt that has drawn a stamp up to t is still to be decided
 abbrev pub Above : ℕ → Phase → Type 0

@@ -116,14 +116,4 @@ impl Cells {
             Some(Row::from_slice(&self.cells[1..self.count]))
         }
     }
-
-    /// An equal value.
-    pub fn copy(&self) -> Cells
-        ensures { result ≡ self.now }
-    {
-        Cells {
-            cells: self.cells,
-            count: self.count,
-        }
-    }
 }

@@ -130,7 +130,9 @@ mod tests {
         let words = Words::at(alloc, &layout, &schema, &map, &stamps)?;
         assert_eq!(rt; words.next, 2);
         assert_eq!(rt; words.records.len(), 2);
-        for record in words.records.as_slice() {
+        for (record, stamp) in words.records.as_slice().iter().zip([0, 9]) {
+            assert_eq!(rt; record.stamp, stamp);
+            assert!(rt; record.holder.is_none());
             assert_eq!(rt; record.cells.len(), 3);
         }
         Ok(())
