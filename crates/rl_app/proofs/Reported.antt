@@ -7,7 +7,7 @@ use Rattle.std.proofs.lemmas.Bool.Decides.{eqb_tells}
 use Rattle.std.proofs.lemmas.List.{take_more}
 use Rattle.rl_base.specs.Stamps.{packed}
 use Rattle.rl_value.specs.Rows.{Rows}
-use Rattle.rl_value.specs.Tables.{Table, IsSchema, record_count}
+use Rattle.rl_value.specs.Tables.{Table, record_count}
 use Rattle.rl_txn.specs.Serial.{after, after_writes, numbered, request_of, Runs, indexes_of, IsInLists}
 use Rattle.rl_txn.specs.Run.{run}
 use Rattle.rl_txn.specs.declared.op.Op.{Op}
@@ -62,9 +62,9 @@ ones (suc n) zero l = refl
 ones (suc n) (suc r) l = ones n r (omega arith)
 
 -- a core opens with a script
-pub core_fits : (script : Script) → IsSchema script.schema → ScriptFits script → CoreFits script.schema script.lists script.rows (replicate (record_count script.schema) 0) 1
-core_fits script schema fits = record {
-  schema = schema;
+pub core_fits : (script : Script) → ScriptFits script → CoreFits script.schema script.lists script.rows (replicate (record_count script.schema) 0) 1
+core_fits script fits = record {
+  schema = fits.tables;
   lists_fit = fits.lists;
   rows_fit = fits.rows;
   earlier = λ r. let z = zeros (record_count script.schema) r in omega (arith, z);

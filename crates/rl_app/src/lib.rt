@@ -1,10 +1,10 @@
 //! The commands of the program.
 #![tactic(auto)]
 
-pub mod answer;
+mod answer;
 pub mod command;
-pub mod report;
-pub mod run;
+mod report;
+mod run;
 pub mod serial;
 pub mod serve;
 pub mod steps;

@@ -91,7 +91,7 @@ impl Run {
             index,
             moved.refused,
         )?;
-        let item = first_of(alloc, was_decided, moved.ended, self.workers[at].decided())?;
+        let item = newly_decided(alloc, was_decided, moved.ended, self.workers[at].decided())?;
         join(&mut self.decided, item)
     }
 
@@ -159,7 +159,7 @@ impl Run {
 
 /// The item that a step decided: none where one was decided before, else the one that it ended or the one that
 /// is decided now.
-fn first_of(
+fn newly_decided(
     alloc: Global,
     was_decided: bool,
     ended: Option<Item>,

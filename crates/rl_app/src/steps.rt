@@ -6,7 +6,6 @@ ghost use Rattle.rl_io.specs.Faults.{Rose};
 ghost use Rattle.rl_script.specs.Fits.{ScriptFits};
 ghost use Rattle.rl_app.specs.Answers.{Answers, Reports, Faults, Limits, status_of};
 ghost use Rattle.rl_app.specs.Serve.{read_fault_line, memory_line, Means, Wrote, WroteFront};
-ghost use Rattle.rl_value.specs.Tables.{IsSchema};
 ghost use Rattle.rl_txn.specs.Serial.{after};
 ghost use Rattle.rl_app.specs.Steps.{IsStepsReport};
 
@@ -50,8 +49,8 @@ pub fn steps_run(alloc: Global, script: Script) -> Result<String, Memory>
     requires { ScriptFits script }
     ensures { IfOk result (λ text. IsStepsReport script (string_bytes text)) }
 {
+    // For the proof alone: the law of the core.
     core_serial();
-    keeps_limits(&script.schema);
     let layout = Layout::new(alloc, &script.schema)?;
     let mut run = Run::open(alloc, &layout, &script)?;
     run.follow(alloc, &layout, &script)?;
@@ -68,13 +67,6 @@ pub fn steps_run(alloc: Global, script: Script) -> Result<String, Memory>
     let items = Seq::from_vec(decided);
     apply_all(&mut rows, &items)?;
     Ok(steps_report(alloc, &refused, &items, &schema, &rows)?)
-}
-
-/// What every schema keeps.
-fn keeps_limits(schema: &Schema)
-    ensures { IsSchema schema.now }
-{
-    let _count = schema.count();
 }
 
 /// Makes the writes of some items, in order.

@@ -100,8 +100,12 @@ fn steps_have_their_reports(rt: HostRuntime) -> Result<(), Fail> {
             "rolis steps\nrefused 1 1 1 locked a 1 1\nitems 2\nitem 1 3 2 1 done 2\nitem 1 4 1 1 declined 4\ntables\nrow a 0 1\nrow a 1 0\n",
         ),
         (
-            "rolis 1\nworkers 2\ntable p 1 2\nrow p 0 1 1\ntxn 1\nput p 0 2 2\nend\ntxn 2\nget p 0 0 r0\nget p 0 1 r1\nout r0\nout r1\nend\nevents\nstep 1 2 3\nstep 1 1 6\nstep 1 2 2\nall\nstep 1 2 7",
+            "rolis 1\nworkers 2\ntable p 1 2\nrow p 0 1 1\ntxn 1\nput p 0 2 2\nend\ntxn 2\nget p 0 0 r0\nget p 0 1 r1\nout r0\nout r1\nend\nevents\nstep 1 2 3\nstep 1 1 6\nstep 1 2 2\nstep 1 2 7",
             "rolis steps\nrefused 1 2 1 changed p 0 0 2199023255556\nitems 2\nitem 1 2 1 1 done\nitem 1 3 2 1 done 2 2\ntables\nrow p 0 2 2\n",
+        ),
+        (
+            "rolis 1\nnodes 3\ntable t 1 1\ntxn 1\nput t 0 1\nend\nevents\nelect 1\nstep 2 1 9\nall",
+            "rolis steps\nitems 0\ntables\n",
         ),
     ];
     for (input, output) in cases {

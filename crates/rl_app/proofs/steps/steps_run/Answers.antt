@@ -15,7 +15,7 @@ returns c =
     let items = c.from_vec-items.result in
     let rows = c.apply_all.new.rows in
     let is : IsRun script.schema script.lists run (core_of script) = c.in_ok-follow.ensures in
-    let fits = core_fits script c.keeps_limits.ensures c.requires in
+    let fits = core_fits script c.requires in
     let serial : IsSerial script.schema script.lists script.rows (items_of 1 (core_of script).decided) =
     c.core_serial.ensures.serial script.schema script.lists script.rows (replicate (record_count script.schema) 0) 1 (replicate script.workers 1) (turns_of script.events) fits in
     record {
