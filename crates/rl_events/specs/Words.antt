@@ -21,14 +21,12 @@ number word = or_fault Number (number_of word)
 
 -- a word that must be a number from low to high
 unfoldable pub within : ℕ → ℕ → List ℕ → Result ℕ Kind
-within low high word = elim (number word) [
-  | Err kind ↦ Err kind
-  | Ok n ↦ if nat_le low n && nat_le n high then Ok n else Err Range
-]
+within low high word = do
+  n ← number word
+  if nat_le low n && nat_le n high then Ok n else Err Range
 
 -- a word that must be a number, and not 0
 unfoldable pub positive : List ℕ → Result ℕ Kind
-positive word = elim (number word) [
-  | Err kind ↦ Err kind
-  | Ok n ↦ if nat_le 1 n then Ok n else Err Range
-]
+positive word = do
+  n ← number word
+  if nat_le 1 n then Ok n else Err Range

@@ -1,5 +1,5 @@
 -- What the lines so far keep, over one more line.
-use Rattle.std.proofs.Common.{◌≡◌, ℕ, ◌+◌, ◌-◌, ◌<◌, ◌≤◌, ◌==◌, ◌&&◌, cond, List, [], ◌∷◌, ◌++◌, length, All, sum_by, slice_get, Bool, true, false, Option, Some, None, IfSome, is_some, Result, Ok, Err, if◌then◌else◌, zero, suc, refl, ap, sym, ◌∙◌, subst, arith, length-append}
+use Rattle.std.proofs.Common.{◌≡◌, ℕ, ◌+◌, ◌-◌, ◌<◌, ◌≤◌, ◌==◌, ◌&&◌, cond, List, [], ◌∷◌, ◌++◌, length, All, sum_by, slice_get, Bool, true, false, Option, Some, None, IfSome, Result, Ok, Err, zero, suc, refl, ap, sym, ◌∙◌, subst, arith, length-append}
 use Rattle.std.specs.Option.{option_map_or}
 use Rattle.std.specs.Ordering.{eq_by_cmp}
 use Rattle.std.specs.FinMap as finite
@@ -38,7 +38,7 @@ length-with_last [] i x = refl
 length-with_last (list ∷ lists) zero x = refl
 length-with_last (list ∷ lists) (suc i) x = ap suc (length-with_last lists i x)
 
-sum-with_last : {X : Type 0} → (lists : List (List X)) (i : ℕ) (x : X) → i < length lists → sum_by (λ l. length l) (with_last lists i x) ≡ sum_by (λ l. length l) lists + 1
+pub sum-with_last : {X : Type 0} → (lists : List (List X)) (i : ℕ) (x : X) → i < length lists → sum_by (λ l. length l) (with_last lists i x) ≡ sum_by (λ l. length l) lists + 1
 sum-with_last [] i x within = absurd (omega arith)
 sum-with_last (list ∷ lists) zero x within = omega (arith, sum_by-cons (λ l. length l) (list ++ x ∷ []) lists, sum_by-cons (λ l. length l) list lists, length-append list (x ∷ []))
 sum-with_last (list ∷ lists) (suc i) x within = omega (arith, sum_by-cons (λ l. length l) list (with_last lists i x), sum_by-cons (λ l. length l) list lists, sum-with_last lists i x (omega arith))
@@ -55,11 +55,7 @@ before_events section.Tables h = refl
 before_events section.Transactions h = refl
 before_events section.Events h = absurd (let e : false ≡ true = h in cc)
 
--- before all requests none is open, and each list is empty
-none_open : (current : Option OpenTxn) (n : ℕ) → n + (if is_some current then 1 else 0) ≡ 0 → current ≡ None
-none_open None n h = refl
-none_open (Some x) n h = absurd (omega arith)
-
+-- before all requests each list is empty
 all_empty : {X : Type 0} (P : X → Type 0) → (lists : List (List X)) → sum_by (λ l. length l) lists ≡ 0 → All (All P) lists
 all_empty P [] h = λ k d within. absurd (omega arith)
 all_empty P ([] ∷ lists) h = All-cons (All P) [] lists (λ k d within. absurd (omega arith)) (all_empty P lists (omega (arith, sum_by-cons (λ l. length l) [] lists)))
@@ -95,9 +91,9 @@ free (Some e) r t refused is = absurd (let same : Ok t ≡ Err e = sym is ∙ re
 -- a table
 pub fits_with_table : (draft : Draft) (x : Table) (tables : List Table) → DraftFits draft → is_before_requests draft.section ≡ true → IsTable x → refusal x.name x.size draft.schema ≡ None → tables ≡ draft.schema ++ x ∷ [] → DraftFits (record draft { section = section.Tables; schema = tables })
 fits_with_table draft x tables f early one declared is =
-    let none : draft.requests ≡ 0 = f.tables_first early in
-    let open_none : draft.current ≡ None = none_open draft.current (sum_by (λ l. length l) draft.lists) (f.requests.count ∙ none) in
-    let no_ops : sum_by (λ l. length l) draft.lists ≡ 0 = omega (arith, f.requests.count, none) in
+    let none = f.tables_first early in
+    let open_none : draft.current ≡ None = none.1 in
+    let no_ops : sum_by (λ l. length l) draft.lists ≡ 0 = none.0 in
     let room = fits x.name x.size draft.schema declared in
     record {
       tables = rw is (schema_push draft.schema x f.tables one room.new (omega (arith, f.tables.few, room.few)) room.records);
@@ -107,7 +103,6 @@ fits_with_table draft x tables f early one declared is =
       requests = record {
         each = all_empty (TxnFits tables) draft.lists no_ops;
         one_list_each = f.requests.one_list_each;
-        count = f.requests.count;
         few = f.requests.few;
         open_fits = if_none _ draft.current open_none;
       };
@@ -161,7 +156,7 @@ pub fits_ended : (draft : Draft) (current : OpenTxn) (lists : List (List (List O
 fits_ended draft current lists is more f =
     let now = rw is at f.requests.open_fits in
     let within : current.worker - 1 < length draft.lists = omega (arith, now.1.0, now.1.1) in
-    let one : sum_by (λ l. length l) draft.lists + 1 ≡ draft.requests = rw is at f.requests.count in
+    let room : sum_by (λ l. length l) draft.lists + 1 ≤ 8192 = rw is at f.requests.few in
     record {
       tables = f.tables;
       settings = f.settings;
@@ -170,11 +165,10 @@ fits_ended draft current lists is more f =
       requests = record {
         each = rw more (All-with_last (TxnFits draft.schema) draft.lists (current.worker - 1) current.txn f.requests.each now.0);
         one_list_each = ap length more ∙ length-with_last draft.lists (current.worker - 1) current.txn ∙ f.requests.one_list_each;
-        count = let sums : sum_by (λ l. length l) lists ≡ sum_by (λ l. length l) draft.lists + 1 = ap (sum_by (λ l. length l)) more ∙ sum-with_last draft.lists (current.worker - 1) current.txn within in omega arith;
-        few = f.requests.few;
+        few = let sums : sum_by (λ l. length l) lists ≡ sum_by (λ l. length l) draft.lists + 1 = ap (sum_by (λ l. length l)) more ∙ sum-with_last draft.lists (current.worker - 1) current.txn within in omega arith;
         open_fits = tt;
       };
-      tables_first = f.tables_first;
+      tables_first = λ early. absurd (let none : Some current ≡ None = sym is ∙ (f.tables_first early).1 in cc);
       events = f.events;
       events_last = f.events_last;
     }
@@ -186,8 +180,8 @@ fits_opening draft is = subst DraftFits (sym is) (record {
   settings = record { nodes = (omega arith, omega arith); workers = (omega arith, omega arith); batch = (omega arith, omega arith); loss = omega arith; seed = omega arith; stops = no_element (IsWithin 1 1000000); few_stops = omega arith };
   rows = λ t k row at. absurd (let e : None ≡ Some row = sym (finite.get-empty place_cmp (t, k)) ∙ at in cc);
   columns = λ t k row at. absurd (let e : None ≡ Some row = sym (finite.get-empty place_cmp (t, k)) ∙ at in cc);
-  requests = record { each = All-cons (All (TxnFits [])) [] [] (no_element (TxnFits [])) (no_element (All (TxnFits []))); one_list_each = refl; count = refl; few = omega arith; open_fits = tt };
-  tables_first = λ h. refl;
+  requests = record { each = All-cons (All (TxnFits [])) [] [] (no_element (TxnFits [])) (no_element (All (TxnFits []))); one_list_each = refl; few = omega arith; open_fits = tt };
+  tables_first = λ h. (refl, refl);
   events = record { each = no_element (EventFits 1 1); counted = omega arith; elections = omega arith };
   events_last = λ h. refl;
 })

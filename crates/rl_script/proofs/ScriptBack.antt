@@ -1,10 +1,11 @@
 -- The printed form of a script is read as the script again.
-use Rattle.std.proofs.Common.{◌≡◌, ℕ, ◌+◌, ◌<◌, ◌≤◌, ◌⊎◌, inl, inr, true, false, List, [], ◌∷◌, ◌++◌, All, length, map, replicate, sum_by, Option, None, Some, Ok, codes, not, ◌&&◌, is_some, refl, ap, sym, subst, ◌∙◌, arith}
+use Rattle.std.proofs.Common.{◌≡◌, ℕ, ◌+◌, ◌<◌, ◌≤◌, ◌⊎◌, inl, inr, true, false, List, [], ◌∷◌, ◌++◌, All, length, map, replicate, sum_by, Option, None, Some, Ok, codes, not, ◌&&◌, is_some, zero, suc, refl, ap, sym, subst, ◌∙◌, arith}
 use Rattle.std.specs.FinMap as finite
 use Rattle.std.specs.List.{flat_map, range_with_len}
 use Rattle.std.proofs.lemmas.Bool.{cases_lt}
 use Rattle.std.proofs.lemmas.List.{length-replicate}
 use Rattle.std.proofs.lemmas.List.Elements.{All-tail}
+use Rattle.std.proofs.lemmas.List.Sums.{sum_by-cons}
 use Rattle.rl_value.specs.Fits.{RowsFit}
 use Rattle.rl_value.specs.Rows.{Rows, place_cmp}
 use Rattle.rl_value.specs.Tables.{Table, IsSchema}
@@ -36,15 +37,14 @@ use Rattle.rl_script.proofs.TablesBack.{tables_back}
 use Rattle.rl_script.proofs.TxnsBack.{TxnsFor, lists_back}
 use Rattle.rl_script.proofs.WordsBack.{lines_are_words}
 
--- the draft that has all of a script, in some section and with a count of requests
-abbrev whole : Script → Section → ℕ → Draft
-whole script at count = record {
+-- the draft that has all of a script, in some section
+abbrev whole : Script → Section → Draft
+whole script at = record {
   section = at;
   settings = all_settings script;
   schema = script.schema;
   rows = script.rows;
   lists = script.lists;
-  requests = count;
   current = None;
   events = script.events;
 }
@@ -114,10 +114,14 @@ schedule_back script draft fits settings none rest early = go script.events fits
               ∙ ap (λ before. Ok (record next { events = before ++ (e ∷ events) })) none;
         }
 
+no_requests : (n : ℕ) → sum_by (λ (l : List (List Op)). length l) (replicate n []) ≡ 0
+no_requests zero = refl
+no_requests (suc n) = omega (arith, sum_by-cons (λ (l : List (List Op)). length l) [] (replicate n []), no_requests n)
+
 -- all lines after the first
 
 whole_back : (script : Script) → ScriptFits script → IsSchema script.schema
-    → record { at : Section; count : ℕ; is : reads opening (setting_lines script ++ map table_line script.schema ++ flat_map (rows_of_table script.schema script.rows) (range_with_len 0 (length script.schema)) ++ list_lines script.schema 1 script.lists ++ event_lines script.events) ≡ Ok (whole script at count) }
+    → record { at : Section; is : reads opening (setting_lines script ++ map table_line script.schema ++ flat_map (rows_of_table script.schema script.rows) (range_with_len 0 (length script.schema)) ++ list_lines script.schema 1 script.lists ++ event_lines script.events) ≡ Ok (whole script at) }
 whole_back script fits ok =
     let settings : List Line = setting_lines script in
     let tables : List Line = map table_line script.schema in
@@ -130,15 +134,14 @@ whole_back script fits ok =
     let filled : Draft = record declared { rows = script.rows } in
     let lists_are : filled.lists ≡ [] ++ replicate (length script.lists) [] = ap (λ n. replicate n []) (sym fits.one_list_each) in
     let for_txns : TxnsFor filled = record { schema = ok; none = refl; early = before_events named.at named.early; few = omega (arith, ap length lists_are, length-replicate {A = List (List Op)} (length script.lists) [], fits.lists.workers) } in
-    let asked = lists_back filled 1 [] script.lists for_txns refl lists_are fits.lists.each (omega (arith, fits.lists.requests)) in
-    let requested : Draft = record filled { section = asked.at; requests = 0 + sum_by (λ l. length l) script.lists; lists = script.lists } in
+    let asked = lists_back filled 1 [] script.lists for_txns refl lists_are fits.lists.each (omega (arith, no_requests script.workers, fits.lists.requests)) in
+    let requested : Draft = record filled { section = asked.at; lists = script.lists } in
     let scheduled = schedule_back script requested fits refl refl refl asked.early in
     let to_tables : reads opening (settings ++ tables) ≡ Ok declared = more_lines opening set settings tables (settings_back script fits) ∙ named.is in
     let to_rows : reads opening (settings ++ tables ++ rows) ≡ Ok filled = more_lines opening declared (settings ++ tables) rows to_tables ∙ rows_back script declared fits ok refl refl named.there in
     let to_txns : reads opening (settings ++ tables ++ rows ++ txns) ≡ Ok requested = more_lines opening filled (settings ++ tables ++ rows) txns to_rows ∙ asked.is in
     record {
       at = scheduled.at;
-      count = 0 + sum_by (λ l. length l) script.lists;
       is = more_lines opening requested (settings ++ tables ++ rows ++ txns) events to_txns ∙ scheduled.is;
     }
 
@@ -155,4 +158,4 @@ script_back script fits =
     let rest : List Line = setting_lines script ++ map table_line script.schema ++ flat_map (rows_of_table script.schema script.rows) (range_with_len 0 (length script.schema)) ++ list_lines script.schema 1 script.lists ++ event_lines script.events in
     ap (λ lines. read_text lines >>= λ draft. Ok (script_of draft)) (lines_of_text (script_lines script) all)
     ∙ ap (λ fault. after_header fault (map line_of rest) >>= λ draft. Ok (script_of draft)) header_ok
-    ∙ ap (λ r. r >>= λ draft. Ok (script_of draft)) (lines_back 2 opening (whole script back.at back.count) rest (All-tail (All IsWord) header_line rest all) back.is refl)
+    ∙ ap (λ r. r >>= λ draft. Ok (script_of draft)) (lines_back 2 opening (whole script back.at) rest (All-tail (All IsWord) header_line rest all) back.is refl)

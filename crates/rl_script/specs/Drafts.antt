@@ -1,5 +1,5 @@
 -- What the lines so far keep, while a script is read.
-use Rattle.std.specs.Prelude.{◌≡◌, ℕ, ◌+◌, ◌≤◌, List, [], length, All, sum_by, Option, IfSome, is_some, true, false, unwrap_or, if◌then◌else◌}
+use Rattle.std.specs.Prelude.{◌≡◌, ℕ, ◌+◌, ◌≤◌, List, [], length, All, sum_by, Option, None, IfSome, is_some, true, false, unwrap_or, if◌then◌else◌}
 use Rattle.rl_value.specs.Fits.{RowsFit}
 use Rattle.rl_value.specs.Tables.{Table, IsSchema}
 use Rattle.rl_txn.specs.Fits.{TxnFits}
@@ -22,12 +22,11 @@ pub record SettingsFit (s : Settings) : Type 0 where
   pub stops : All (IsWithin 1 1000000) s.stops
   pub few_stops : length s.stops ≤ 63
 
--- the requests so far fit the tables, and are counted
-pub record RequestsFit (tables : List Table) (workers : ℕ) (lists : List (List (List Op))) (current : Option OpenTxn) (requests : ℕ) : Type 0 where
+-- the requests so far fit the tables, and the one that is open can join them
+pub record RequestsFit (tables : List Table) (workers : ℕ) (lists : List (List (List Op))) (current : Option OpenTxn) : Type 0 where
   pub each : All (All (TxnFits tables)) lists
   pub one_list_each : length lists ≡ workers
-  pub count : sum_by length lists + (if is_some current then 1 else 0) ≡ requests
-  pub few : requests ≤ 8192
+  pub few : sum_by length lists + (if is_some current then 1 else 0) ≤ 8192
   pub open_fits : IfSome current (λ current. TxnFits tables current.txn × IsWithin 1 (length lists) current.worker)
 
 -- what the lines so far say fits together
@@ -36,7 +35,7 @@ pub record DraftFits (draft : Draft) : Type 0 where
   pub settings : SettingsFit draft.settings
   pub rows : RowsFit draft.schema draft.rows
   pub columns : ColumnsFit draft.rows
-  pub requests : RequestsFit draft.schema (workers_of draft.settings) draft.lists draft.current draft.requests
-  pub tables_first : is_before_requests draft.section ≡ true → draft.requests ≡ 0
+  pub requests : RequestsFit draft.schema (workers_of draft.settings) draft.lists draft.current
+  pub tables_first : is_before_requests draft.section ≡ true → (sum_by length draft.lists ≡ 0) × (draft.current ≡ None)
   pub events : EventsFit (nodes_of draft.settings) (workers_of draft.settings) draft.events
   pub events_last : is_events draft.section ≡ false → draft.events ≡ []

@@ -67,7 +67,7 @@ row_of draft name key cells = do
 unfoldable pub begun : Draft → List ℕ → Result Draft Problem
 begun draft worker = do
   worker ← as_problem (within 1 (length draft.lists) worker)
-  if draft.requests == 8192 then Err (Limit limits.Requests 8192) else Ok (record draft { section = section.Transactions; requests = draft.requests + 1; current = Some (record { worker = worker; txn = [] }) })
+  if sum_by length draft.lists == 8192 then Err (Limit limits.Requests 8192) else Ok (record draft { section = section.Transactions; current = Some (record { worker = worker; txn = [] }) })
 
 -- `end`: the open transaction becomes the last request of its list
 abbrev pub ended : Draft → Draft
@@ -162,7 +162,7 @@ header_fault line = if is_printable line then (if is_header (words_of line) then
 
 -- nothing is set or declared yet, and the one list is empty
 abbrev pub opening : Draft
-opening = record { section = section.Settings; settings = no_settings; schema = []; rows = map.empty; lists = [] ∷ []; requests = 0; current = None; events = [] }
+opening = record { section = section.Settings; settings = no_settings; schema = []; rows = map.empty; lists = [] ∷ []; current = None; events = [] }
 
 -- the lines after the first, unless something is wrong with it
 abbrev pub after_header : Option Problem → List (List ℕ) → Result Draft (ℕ × Problem)

@@ -14,6 +14,7 @@ ghost use Rattle.rl_script.specs.Read.{setting, joined, declared, row_of, begun,
 use crate::fault::LineError;
 use crate::line::{LineKind, OpWord, line_kind};
 use crate::operation::{read_op, table_for};
+use crate::requests::{MOST_REQUESTS, RequestLists};
 use crate::schedule::Schedule;
 use crate::settings::{SettingWord, Settings};
 use rl_base::limit::LimitName;
@@ -22,15 +23,12 @@ use rl_events::kind::Kind;
 use rl_events::line::{EventWord, read_event};
 use rl_events::text::{printable, words};
 use rl_events::word::{number, within};
-use rl_txn::op::{Lists, Requests, Txn};
+use rl_txn::op::Txn;
 use rl_value::map::Map;
 use rl_value::name::is_name;
 use rl_value::row::Row;
 use rl_value::schema::{DeclareError, MOST_RECORDS, MOST_TABLES, Schema};
 use std::alloc::Global;
-
-/// How many requests the lists may have together.
-const MOST_REQUESTS: u32 = 8192;
 
 /// How many ops a transaction may have.
 const MOST_OPS: u32 = 64;
@@ -51,28 +49,16 @@ pub struct OpenTxn {
     pub txn: Txn,
 }
 
-/// What the lines so far say. `requests` counts the transactions that have begun.
+/// What the lines so far say.
 #[derive(Drop)]
 pub struct Draft {
     pub section: Section,
     pub settings: Settings,
     pub schema: Schema,
     pub rows: Map,
-    pub lists: Lists,
-    pub requests: u32,
+    pub lists: RequestLists,
     pub current: Option<OpenTxn>,
     pub events: Schedule,
-}
-
-/// An empty list for each of some workers.
-fn empty_lists(alloc: Global, workers: u32) -> Result<Lists, Memory>
-    ensures { IfOk result (λ lists. lists ≡ replicate workers []) }
-{
-    let mut lists = Lists::new(alloc);
-    for worker in 0..workers {
-        lists.push(Requests::new(alloc))?;
-    }
-    Ok(lists)
 }
 
 /// The numbers that some words are.
@@ -105,8 +91,7 @@ impl Draft {
             settings: Settings::new(alloc),
             schema: Schema::new(alloc),
             rows: Map::new(alloc),
-            lists: empty_lists(alloc, 1)?,
-            requests: 0,
+            lists: RequestLists::empty(alloc, 1)?,
             current: None,
             events: Schedule::new(alloc),
         })
@@ -123,7 +108,7 @@ impl Draft {
         ensures fits { IfOk result (λ _. DraftFits self.new) }
     {
         self.settings.set(word, value)?;
-        self.lists = empty_lists(alloc, self.settings.workers())?;
+        self.lists = RequestLists::empty(alloc, self.settings.workers())?;
         Ok(())
     }
 
@@ -211,12 +196,11 @@ impl Draft {
             (λ e. Fails e (begun self.old worker.now)) }
         ensures fits { IfOk result (λ _. DraftFits self.new) }
     {
-        let worker = within(1, self.lists.len() as u32, worker)?;
-        if self.requests == MOST_REQUESTS {
+        let worker = within(1, self.lists.workers() as u32, worker)?;
+        if self.lists.are_full() {
             return Err(LineError::limit(LimitName::Requests, MOST_REQUESTS));
         }
         self.section = Section::Transactions;
-        self.requests += 1;
         self.current = Some(OpenTxn {
             worker,
             txn: Txn::new(alloc),
@@ -233,7 +217,7 @@ impl Draft {
         let Some(OpenTxn { worker, txn }) = self.current.take() else {
             return Ok(());
         };
-        self.lists.push_at(worker as usize - 1, txn)?;
+        self.lists.push(worker, txn)?;
         Ok(())
     }
 

@@ -6,6 +6,7 @@ pub mod fault;
 mod line;
 mod operation;
 pub mod printed;
+mod requests;
 mod schedule;
 pub mod script;
 mod settings;

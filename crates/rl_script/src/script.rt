@@ -141,7 +141,7 @@ impl Draft {
             loss: self.settings.loss.unwrap_or(0),
             seed: self.settings.seed.unwrap_or(0),
             stops: self.settings.stops,
-            lists: self.lists,
+            lists: self.lists.into_lists(),
             events: self.events.into_events(),
         }
     }

@@ -1,5 +1,5 @@
 use Rattle.std.proofs.Common.{◌≡◌, [], replicate}
-use Rattle.rl_script.proofs.draft.empty_lists.Given as goal
+use Rattle.rl_script.proofs.requests.empty_lists.Given as goal
 
 abbrev pub invariant-loop-worker : goal.invariant-loop-worker
 invariant-loop-worker l = l.lists ≡ replicate l.worker []
