@@ -1,11 +1,10 @@
 -- Batches: what is read is spelled so and in range, and what is spelled so is read again.
-use Rattle.std.proofs.Common.{◌≡◌, ℕ, ◌-◌, ◌^◌, ◌<◌, Bool, true, false, cond, List, [], ◌∷◌, ◌++◌, Result, Ok, Err, refl, sym, ap, subst, ◌∙◌, arith, ◌⊎◌, inl, inr}
+use Rattle.std.proofs.Common.{◌≡◌, ℕ, ◌-◌, ◌^◌, ◌<◌, true, cond, List, [], ◌∷◌, ◌++◌, Result, Ok, Err, refl, sym, ap, subst, ◌∙◌, arith, inl, inr}
 use Rattle.std.specs.Prelude.{IfOk, OnOk, ◌==◌}
 use Rattle.std.proofs.lemmas.Bool.{eqb-true}
 use Rattle.std.proofs.lemmas.List.{append-nil}
 use Rattle.byteorder.specs.Endian.{big_bytes}
 use Rattle.rl_base.specs.Numbers.{IsBytes}
-use Rattle.rl_base.specs.declared.flaw.Flaw.{Flaw}
 use Rattle.rl_base.specs.declared.memory.Memory.{Memory}
 use Rattle.rl_base.specs.declared.flaw.Flaw.TheVariants.{Kind}
 use Rattle.rl_base.specs.declared.stamp.Stamp.{Stamp}
@@ -15,7 +14,7 @@ use Rattle.rl_txn.specs.declared.batch.Batch.TheVariants.{Items, Idle, Opened}
 use Rattle.rl_fields.specs.declared.fault.Fault.{Fault}
 use Rattle.rl_fields.specs.Faults.{fault_at, placed}
 use Rattle.rl_fields.specs.Fields.{◌>>=◌, within, alone}
-use Rattle.rl_fields.proofs.FieldLaws.{IsBytes-rest, bind_ok, ok_is, Takes, Takes-then, within_takes, within_again, alone_takes}
+use Rattle.rl_fields.proofs.FieldLaws.{IsBytes-rest, bind_ok, ok_is, Takes, Takes-then, within_takes, within_again, alone_takes, chosen, placed_ok}
 use Rattle.rl_batch.specs.declared.batch_error.BatchError.{BatchError}
 use Rattle.rl_batch.specs.Answers.{Answers}
 use Rattle.rl_batch.specs.Spelling.{items_bytes, mark_bytes, batch_bytes}
@@ -47,10 +46,6 @@ mark_again low high s small range =
     ∙ ap (λ (r : Result (ℕ × List ℕ) Fault). r >>= λ seq. Ok (record { epoch = s.epoch; seq = seq.0 }, seq.1)) seq
 
 -- ---- batches
-
-chosen : {A : Type 0} (b : Bool) (x y z : A) → cond b x y ≡ z → ((b ≡ true) × (x ≡ z)) ⊎ ((b ≡ false) × (y ≡ z))
-chosen true x y z e = inl (refl, e)
-chosen false x y z e = inr (refl, e)
 
 kind_takes : (kind k : ℕ) (rest text after : List ℕ) → (kind == k) ≡ true → Takes rest text after → Takes (kind ∷ rest) (k ∷ text) after
 kind_takes kind k rest text after same t = record { parts = ap (λ (bytes : List ℕ). kind ∷ bytes) t.parts ∙ ap (λ (n : ℕ). n ∷ (text ++ after)) (eqb-true kind k same); rest_fits = t.rest_fits }
@@ -110,10 +105,6 @@ whole_again (Idle s) range words = ap (λ (r : Result (Stamp × List ℕ) Fault)
 whole_again (Opened s) range words = ap (λ (r : Result (Stamp × List ℕ) Fault). (r >>= as_batch Opened) >>= λ x. alone x.0 x.1) (mark_again 1 1 s (omega arith) range)
 
 -- ---- answers
-
-placed_ok : (bytes : List ℕ) (r : Result Batch Fault) (b : Batch) → placed bytes r ≡ Ok b → r ≡ Ok b
-placed_ok bytes (Ok x) b e = ap Ok (ok_is {E = ℕ × Flaw} x b e)
-placed_ok bytes (Err f) b e = absurd cc
 
 pub is_spelled : (bytes : List ℕ) (answer : Result Batch BatchError) → IsBytes bytes → Answers (read_batch bytes) answer → IfOk answer (λ b. bytes ≡ batch_bytes b)
 is_spelled bytes (Ok b) fits said = (whole_takes bytes b fits (placed_ok bytes (whole bytes) b said)).0

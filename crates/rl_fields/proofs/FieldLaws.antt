@@ -1,13 +1,15 @@
 -- What a reader of a field takes is spelled so, and what is spelled so is read again.
-use Rattle.std.proofs.Common.{◌≡◌, ℕ, suc, ◌+◌, ◌^◌, ◌<◌, ◌≤◌, Bool, true, false, cond, ltb, leb, ◌&&◌, List, [], ◌∷◌, ◌++◌, length, take, drop, Result, Ok, Err, refl, sym, ap, subst, ◌∙◌, append_assoc, arith}
+use Rattle.std.proofs.Common.{◌≡◌, ◌⊎◌, inl, inr, ℕ, suc, ◌+◌, ◌^◌, ◌<◌, ◌≤◌, Bool, true, false, cond, ltb, leb, ◌&&◌, List, [], ◌∷◌, ◌++◌, length, take, drop, Result, Ok, Err, refl, sym, ap, subst, ◌∙◌, append_assoc, arith}
 use Rattle.std.proofs.lemmas.Bool.{ltb-false, le-ltb, leb-true, le-leb}
 use Rattle.std.proofs.lemmas.List.{take_at, drop_at, take-append-drop, length-append, length-take, get_or-drop}
 use Rattle.byteorder.specs.Endian.{big_number, big_bytes}
 use Rattle.byteorder.specs.Numbers.{big_from-lt, length-bytes_high_first, big_number-reads_back}
 use Rattle.rl_base.specs.Numbers.{IsBytes}
 use Rattle.rl_base.proofs.NumberLemmas.{big_bytes-number}
+use Rattle.rl_base.specs.declared.flaw.Flaw.{Flaw}
 use Rattle.rl_base.specs.declared.flaw.Flaw.TheVariants.{Short, Range}
-use Rattle.rl_fields.specs.Faults.{fault_at}
+use Rattle.rl_fields.specs.Faults.{fault_at, placed}
+use Rattle.rl_fields.specs.declared.fault.Fault.{Fault}
 use Rattle.rl_fields.specs.Fields.{◌>>=◌, number, within, string, alone}
 
 pub IsBytes-drop : (n : ℕ) (bytes : List ℕ) → IsBytes bytes → IsBytes (drop n bytes)
@@ -45,9 +47,19 @@ pub record Takes (bytes text rest : List ℕ) : Type 0 where
 pub Takes-then : (a x b y c : List ℕ) → Takes a x b → Takes b y c → Takes a (x ++ y) c
 Takes-then a x b y c p q = record { parts = p.parts ∙ ap (λ (t : List ℕ). x ++ t) q.parts ∙ sym (append_assoc x y c); rest_fits = q.rest_fits }
 
-both : (a b : Bool) → (a && b) ≡ true → (a ≡ true) × (b ≡ true)
+pub both : (a b : Bool) → (a && b) ≡ true → (a ≡ true) × (b ≡ true)
 both true b e = (refl, e)
 both false b e = absurd cc
+
+-- which of two was taken
+pub chosen : {A : Type 0} (b : Bool) (x y z : A) → cond b x y ≡ z → ((b ≡ true) × (x ≡ z)) ⊎ ((b ≡ false) × (y ≡ z))
+chosen true x y z e = inl (refl, e)
+chosen false x y z e = inr (refl, e)
+
+-- what is read with its place is what is read
+pub placed_ok : {A : Type 0} (bytes : List ℕ) (r : Result A Fault) (x : A) → placed bytes r ≡ Ok x → r ≡ Ok x
+placed_ok bytes (Ok x) y e = ap Ok (ok_is {E = ℕ × Flaw} x y e)
+placed_ok bytes (Err f) y e = absurd cc
 
 both_true : (a b : Bool) → a ≡ true → b ≡ true → (a && b) ≡ true
 both_true true b p q = q

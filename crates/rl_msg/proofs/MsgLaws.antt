@@ -1,5 +1,5 @@
 -- Messages: what is read is spelled so and in range, and what is spelled so is read again.
-use Rattle.std.proofs.Common.{◌≡◌, ℕ, ◌-◌, ◌^◌, ◌<◌, ◌≤◌, Bool, true, false, cond, ◌&&◌, leb, List, [], ◌∷◌, ◌++◌, length, map, Result, Ok, Err, refl, sym, ap, subst, ◌∙◌, append_assoc, arith, ◌⊎◌, inl, inr}
+use Rattle.std.proofs.Common.{◌≡◌, ℕ, ◌-◌, ◌^◌, ◌<◌, ◌≤◌, Bool, true, false, cond, ◌&&◌, leb, List, [], ◌∷◌, ◌++◌, length, map, Result, Ok, Err, refl, sym, ap, subst, ◌∙◌, append_assoc, arith, inl, inr}
 use Rattle.std.specs.Prelude.{IfOk, ◌==◌}
 use Rattle.std.specs.List.{flat_map, zip, AllByRecursion}
 use Rattle.std.proofs.lemmas.Bool.{eqb-true, leb-true}
@@ -9,13 +9,12 @@ use Rattle.std.proofs.lemmas.List.Elements.{All-from_recursion, recursion_from_A
 use Rattle.std.proofs.lemmas.Slice.Zip.{firsts-zip, seconds-zip, length-zip}
 use Rattle.byteorder.specs.Endian.{big_bytes}
 use Rattle.rl_base.specs.Numbers.{IsBytes}
-use Rattle.rl_base.specs.declared.flaw.Flaw.{Flaw}
 use Rattle.rl_base.specs.declared.memory.Memory.{Memory}
 use Rattle.rl_base.specs.declared.flaw.Flaw.TheVariants.{Kind}
 use Rattle.rl_fields.specs.declared.fault.Fault.{Fault}
 use Rattle.rl_fields.specs.Faults.{fault_at, placed}
 use Rattle.rl_fields.specs.Fields.{◌>>=◌, within, string, several, alone}
-use Rattle.rl_fields.proofs.FieldLaws.{IsBytes-rest, bind_ok, ok_is, Takes, Takes-then, within_takes, within_again, string_takes, string_again, alone_takes}
+use Rattle.rl_fields.proofs.FieldLaws.{IsBytes-rest, bind_ok, ok_is, Takes, Takes-then, within_takes, within_again, string_takes, string_again, alone_takes, both, chosen, placed_ok}
 use Rattle.rl_fields.proofs.SeriesLaws.{several_takes, several_again}
 use Rattle.rl_msg.specs.declared.head.Head.{Head}
 use Rattle.rl_msg.specs.declared.msg.Msg.{Msg}
@@ -258,10 +257,6 @@ known_takes h bytes x fits head_fits e =
     subst (λ (y : Msg × List ℕ). IsFields 6 h bytes y) (ok_is {E = Fault} (answered (Known h.from h.to h.epoch a.0.0.0 a.0.0.1) a.0.1) x a.2)
     (record { text = place_bytes a.0.0.0 a.0.0.1; takes = at.0; spelled = refl; range = (head_fits, at.1, at.2) })
 
-chosen : {A : Type 0} (b : Bool) (x y z : A) → cond b x y ≡ z → ((b ≡ true) × (x ≡ z)) ⊎ ((b ≡ false) × (y ≡ z))
-chosen true x y z e = inl (refl, e)
-chosen false x y z e = inr (refl, e)
-
 of_kind : (kind k : ℕ) (h : Head) (bytes : List ℕ) (x : Msg × List ℕ) → kind ≡ k → IsFields k h bytes x → IsFields kind h bytes x
 of_kind kind k h bytes x same fields = subst (λ (n : ℕ). IsFields n h bytes x) (sym same) fields
 
@@ -290,10 +285,6 @@ fields_takes kind h bytes x fits hf low high e =
         ]
       ]
     ]
-
-both : (a b : Bool) → (a && b) ≡ true → (a ≡ true) × (b ≡ true)
-both true b e = (refl, e)
-both false b e = absurd cc
 
 msg_takes : (bytes : List ℕ) (x : Msg × List ℕ) → IsBytes bytes → msg bytes ≡ Ok x → Takes bytes (msg_bytes x.0) x.1 × MsgInRange x.0
 unfolding msg
@@ -382,10 +373,6 @@ whole_again (Ack f t e s n) range = whole_from 5 f t e (place_bytes s n) (Ack f 
 whole_again (Known f t e s n) range = whole_from 6 f t e (place_bytes s n) (Known f t e s n) refl range.0 (known_again (of_head f t e) s n range.1 range.2)
 
 -- ---- answers
-
-placed_ok : (bytes : List ℕ) (r : Result Msg Fault) (m : Msg) → placed bytes r ≡ Ok m → r ≡ Ok m
-placed_ok bytes (Ok x) m e = ap Ok (ok_is {E = ℕ × Flaw} x m e)
-placed_ok bytes (Err f) m e = absurd cc
 
 pub is_spelled : (bytes : List ℕ) (answer : Result Msg MsgError) → IsBytes bytes → Answers (read_msg bytes) answer → IfOk answer (λ m. bytes ≡ msg_bytes m)
 is_spelled bytes (Ok m) fits said = (whole_takes bytes m fits (placed_ok bytes (whole bytes) m said)).0
