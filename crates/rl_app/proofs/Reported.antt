@@ -8,7 +8,7 @@ use Rattle.std.proofs.lemmas.List.{take_more}
 use Rattle.rl_base.specs.Stamps.{packed}
 use Rattle.rl_value.specs.Rows.{Rows}
 use Rattle.rl_value.specs.Tables.{Table, record_count}
-use Rattle.rl_txn.specs.Serial.{after, after_writes, numbered, request_of, Runs, indexes_of, IsInLists}
+use Rattle.rl_txn.specs.Serial.{rows_after, after_writes, numbered, request_of, Runs, indexes_of, IsInLists}
 use Rattle.rl_txn.specs.Run.{run}
 use Rattle.rl_txn.specs.declared.op.Op.{Op}
 use Rattle.rl_txn.specs.declared.item.Item.{Item}
@@ -21,13 +21,13 @@ use Rattle.rl_app.specs.declared.run.Run.{Run}
 use Rattle.std.specs.String.{string_bytes}
 use Rattle.rl_app.specs.Texts.{refusal_text, run_text, steps_text}
 
-after_append : (rows : Rows) (xs : List Item) (x : Item) → after rows (xs ++ x ∷ []) ≡ after_writes (after rows xs) x.writes
+after_append : (rows : Rows) (xs : List Item) (x : Item) → rows_after rows (xs ++ x ∷ []) ≡ after_writes (rows_after rows xs) x.writes
 after_append rows [] x = refl
 after_append rows (y ∷ ys) x = after_append (after_writes rows y.writes) ys x
 
 -- the rows after one more item
-pub after_more : (rows : Rows) (items : List Item) (i : ℕ) (x : Item) → i < length items → x ≡ get_or items i x → after rows (take (i + 1) items) ≡ after_writes (after rows (take i items)) x.writes
-after_more rows items i x l is = ap (after rows) (take_more items i x l ∙ ap (λ z. take i items ++ z ∷ []) (sym is)) ∙ after_append rows (take i items) x
+pub after_more : (rows : Rows) (items : List Item) (i : ℕ) (x : Item) → i < length items → x ≡ get_or items i x → rows_after rows (take (i + 1) items) ≡ after_writes (rows_after rows (take i items)) x.writes
+after_more rows items i x l is = ap (rows_after rows) (take_more items i x l ∙ ap (λ z. take i items ++ z ∷ []) (sym is)) ∙ after_append rows (take i items) x
 
 -- items of epoch 1 are those of the core
 pub items_back : (tables : List Table) (xs : List Item) → IsByStamp xs → items_of 1 (map (core_item tables) xs) ≡ xs
@@ -41,15 +41,15 @@ items_back tables (x ∷ xs) s =
     ap (λ z. z ∷ items_of 1 (map (core_item tables) xs)) one ∙ ap (λ zs. x ∷ zs) (items_back tables xs s.2)
 
 -- what was printed, by what a run kept
-pub printed : (script : Script) (run : Run) (items : List Item) (rows : Rows) (text : List ℕ) → IsRun script.schema script.lists run (core_of script) → items ≡ run.decided.items → rows ≡ after script.rows items
+pub printed : (script : Script) (run : Run) (items : List Item) (rows : Rows) (text : List ℕ) → IsRun script.schema script.lists run (core_of script) → items ≡ run.decided.items → rows ≡ rows_after script.rows items
     → text ≡ codes "rolis steps\n" ++ string_bytes run.refused ++ run_text items script.schema rows
-    → text ≡ steps_text script.schema (core_of script).refusals (items_of 1 (core_of script).decided) (after script.rows (items_of 1 (core_of script).decided))
+    → text ≡ steps_text script.schema (core_of script).refusals (items_of 1 (core_of script).decided) (rows_after script.rows (items_of 1 (core_of script).decided))
 unfolding steps_text
 printed script run items rows text is kept after_is e =
     let back : items ≡ items_of 1 (core_of script).decided = kept ∙ sym (ap (items_of 1) is.decided ∙ items_back script.schema run.decided.items is.by_stamp) in
     e ∙ ap (λ z. codes "rolis steps\n" ++ z ++ run_text items script.schema rows) is.refused
     ∙ ap (λ z. codes "rolis steps\n" ++ flat_map (refusal_text script.schema) (reverse (core_of script).refusals) ++ run_text items script.schema z) after_is
-    ∙ ap (λ xs. codes "rolis steps\n" ++ flat_map (refusal_text script.schema) (reverse (core_of script).refusals) ++ run_text xs script.schema (after script.rows xs)) back
+    ∙ ap (λ xs. codes "rolis steps\n" ++ flat_map (refusal_text script.schema) (reverse (core_of script).refusals) ++ run_text xs script.schema (rows_after script.rows xs)) back
 
 zeros : (n r : ℕ) → slice_index (replicate n 0) r ≡ 0
 zeros zero r = refl

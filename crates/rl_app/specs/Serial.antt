@@ -1,6 +1,6 @@
 -- What the command `serial` reports.
 use Rattle.std.specs.Prelude.{◌≡◌, ℕ, List}
-use Rattle.rl_txn.specs.Serial.{after, IsListByList}
+use Rattle.rl_txn.specs.Serial.{rows_after, IsListByList}
 use Rattle.rl_txn.specs.declared.item.Item.{Item}
 use Rattle.rl_script.specs.declared.script.Script.{Script}
 use Rattle.rl_app.specs.Texts.{serial_text}
@@ -9,4 +9,4 @@ use Rattle.rl_app.specs.Texts.{serial_text}
 pub record IsReport (script : Script) (text : List ℕ) : Type 0 where
   pub items : List Item
   pub ran : IsListByList script.schema script.lists script.rows items
-  pub printed : text ≡ serial_text items script.schema (after script.rows items)
+  pub printed : text ≡ serial_text items script.schema (rows_after script.rows items)

@@ -6,7 +6,7 @@ ghost use Rattle.rl_io.specs.Faults.{Rose};
 ghost use Rattle.rl_script.specs.Fits.{ScriptFits};
 ghost use Rattle.rl_app.specs.Answers.{Answers, Reports, Faults, Limits, status_of};
 ghost use Rattle.rl_app.specs.Serve.{read_fault_line, memory_line, Means, Wrote, WroteFront};
-ghost use Rattle.rl_txn.specs.Serial.{after};
+ghost use Rattle.rl_txn.specs.Serial.{rows_after};
 ghost use Rattle.rl_app.specs.Steps.{IsStepsReport};
 
 use crate::answer::{Command, serve};
@@ -71,7 +71,7 @@ pub fn steps_run(alloc: Global, script: Script) -> Result<String, Memory>
 
 /// Makes the writes of some items, in order.
 fn apply_all(rows: &mut Map, items: &Items) -> Result<(), Memory>
-    ensures { OnOk result (rows.new ≡ after rows.old items.now) }
+    ensures { OnOk result (rows.new ≡ rows_after rows.old items.now) }
 {
     for item in items.as_slice() {
         apply(rows, item)?;

@@ -1,5 +1,7 @@
 pub mod Epochs
 pub mod Lists
 pub mod Numbers
+pub mod Order
+pub mod Results
 pub mod Stamps
 pub mod Words

@@ -10,7 +10,7 @@ use Rattle.rl_value.specs.Rows.{Rows, place_cmp}
 use Rattle.rl_value.proofs.PlacesLemmas.{places_total}
 use Rattle.rl_txn.specs.declared.item.Item.{Item}
 use Rattle.rl_txn.specs.declared.write.Write.{Write}
-use Rattle.rl_txn.specs.Serial.{put_or_remove, with_write, after_writes, after}
+use Rattle.rl_txn.specs.Serial.{put_or_remove, with_write, after_writes, rows_after}
 use Rattle.rl_replay.specs.Replay.{is_at}
 
 abbrev pub place_of : Write → ℕ × ℕ
@@ -63,9 +63,9 @@ abbrev pub left_by : Option (List ℕ) → ℕ × ℕ → List Item → Option (
 left_by row q [] = row
 left_by row q (x ∷ xs) = left_by (written row q x.writes) q xs
 
-pub get-after : (rows : Rows) (xs : List Item) (q : ℕ × ℕ) → get (after rows xs) q ≡ left_by (get rows q) q xs
-get-after rows [] q = refl
-get-after rows (x ∷ xs) q = get-after (after_writes rows x.writes) xs q ∙ ap (λ r. left_by r q xs) (get-after_writes rows x.writes q)
+pub get-rows_after : (rows : Rows) (xs : List Item) (q : ℕ × ℕ) → get (rows_after rows xs) q ≡ left_by (get rows q) q xs
+get-rows_after rows [] q = refl
+get-rows_after rows (x ∷ xs) q = get-rows_after (after_writes rows x.writes) xs q ∙ ap (λ r. left_by r q xs) (get-after_writes rows x.writes q)
 
 -- where something is written at a place, it does not matter what stood there, and else it stays
 pub written_over : (q : ℕ × ℕ) (ws : List Write) (a b : Option (List ℕ)) → list_any (is_at q) ws ≡ true → written a q ws ≡ written b q ws

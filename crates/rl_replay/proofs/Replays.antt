@@ -10,11 +10,11 @@ use Rattle.rl_base.specs.declared.stamp.Stamp.{Stamp}
 use Rattle.rl_value.specs.Rows.{Rows}
 use Rattle.rl_txn.specs.declared.item.Item.{Item}
 use Rattle.rl_txn.specs.declared.write.Write.{Write}
-use Rattle.rl_txn.specs.Serial.{after_writes, after}
+use Rattle.rl_txn.specs.Serial.{after_writes, rows_after}
 use Rattle.rl_cut.specs.Order.{is_below, place, in_order}
 use Rattle.rl_cut.proofs.Sorting.{In, lower, Least, Sorted, in_order_sorted, lower_one_way}
 use Rattle.rl_replay.specs.Replay.{is_at, writes_at, is_overwritten, newest_writes, made, AreDistinct}
-use Rattle.rl_replay.proofs.Places.{same_rows, written, get-after_writes, left_by, get-after, left_over, left_not, written-filter_all, written-filter_none, at_same}
+use Rattle.rl_replay.proofs.Places.{same_rows, written, get-after_writes, left_by, get-rows_after, left_over, left_not, written-filter_all, written-filter_none, at_same}
 use Rattle.rl_replay.proofs.Sets.{in_contains}
 
 -- no item of a list has this stamp
@@ -154,20 +154,20 @@ distinct_last xs x h y i =
     (subst (λ (z : Item). (get_or (xs ++ x ∷ []) k.0 y).stamp ≢ z.stamp) (get_or_at xs x [] y (length xs) refl) (h k.0 (length xs) y k.1 (omega (arith, length-append xs (x ∷ [])))))
 
 -- ---- the rows ----
-pub rows_more : (opening rows : Rows) (applied : List Item) (x : Item) → AreDistinct (applied ++ x ∷ []) → (AreDistinct applied → rows ≡ after opening (in_order applied))
-    → after_writes rows (newest_writes applied x) ≡ after opening (in_order (applied ++ x ∷ []))
+pub rows_more : (opening rows : Rows) (applied : List Item) (x : Item) → AreDistinct (applied ++ x ∷ []) → (AreDistinct applied → rows ≡ rows_after opening (in_order applied))
+    → after_writes rows (newest_writes applied x) ≡ rows_after opening (in_order (applied ++ x ∷ []))
 rows_more opening rows applied x d h =
     let free = distinct_last applied x d in
     let was = h (distinct_front applied (x ∷ []) d) in
-    same_rows (after_writes rows (newest_writes applied x)) (after opening (in_order (applied ++ x ∷ []))) (λ q.
+    same_rows (after_writes rows (newest_writes applied x)) (rows_after opening (in_order (applied ++ x ∷ []))) (λ q.
     get-after_writes rows (newest_writes applied x) q ∙ written_newest x q applied (get rows q)
     ∙ ap (λ b. step x q b (get rows q)) (sym (any-in_order (λ (y : Item). is_below x.stamp y.stamp && writes_at q y) applied))
-    ∙ ap (step x q (list_any (λ (y : Item). is_below x.stamp y.stamp && writes_at q y) (in_order applied))) (ap (λ m. get m q) was ∙ get-after opening (in_order applied) q)
-    ∙ sym (get-after opening (in_order (applied ++ x ∷ [])) q ∙ ap (left_by (get opening q) q) (in_order-push applied x free)
+    ∙ ap (step x q (list_any (λ (y : Item). is_below x.stamp y.stamp && writes_at q y) (in_order applied))) (ap (λ m. get m q) was ∙ get-rows_after opening (in_order applied) q)
+    ∙ sym (get-rows_after opening (in_order (applied ++ x ∷ [])) q ∙ ap (left_by (get opening q) q) (in_order-push applied x free)
     ∙ left_place x q (in_order applied) (get opening q) (in_order_sorted applied) (λ y i. free y (in_in_order y applied i))))
 
 -- after an entry that added an item or none
-pub replays : (opening rows : Rows) (applied : List Item) (o : Option Item) → (AreDistinct applied → rows ≡ after opening (in_order applied))
-    → AreDistinct (applied ++ option_to_list o) → after_writes rows (made applied (option_to_list o)) ≡ after opening (in_order (applied ++ option_to_list o))
-replays opening rows applied None h d = h (distinct_front applied [] d) ∙ ap (λ z. after opening (in_order z)) (sym (append-nil applied))
+pub replays : (opening rows : Rows) (applied : List Item) (o : Option Item) → (AreDistinct applied → rows ≡ rows_after opening (in_order applied))
+    → AreDistinct (applied ++ option_to_list o) → after_writes rows (made applied (option_to_list o)) ≡ rows_after opening (in_order (applied ++ option_to_list o))
+replays opening rows applied None h d = h (distinct_front applied [] d) ∙ ap (λ z. rows_after opening (in_order z)) (sym (append-nil applied))
 replays opening rows applied (Some x) h d = rows_more opening rows applied x d h

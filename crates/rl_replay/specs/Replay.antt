@@ -9,7 +9,7 @@ use Rattle.rl_value.specs.Rows.{Rows}
 use Rattle.rl_txn.specs.declared.item.Item.{Item}
 use Rattle.rl_txn.specs.declared.write.Write.{Write}
 use Rattle.rl_txn.specs.declared.batch.Batch.{Batch}
-use Rattle.rl_txn.specs.Serial.{after, after_writes}
+use Rattle.rl_txn.specs.Serial.{rows_after, after_writes}
 use Rattle.rl_cut.specs.Order.{is_below, in_order}
 use Rattle.rl_replay.specs.Entries.{Entry, entry_at}
 use Rattle.rl_replay.specs.declared.played.Played.{Played}
@@ -91,7 +91,7 @@ AreDistinct xs = AllPairs (λ x y. x.stamp ≢ y.stamp) xs
 
 -- the rows are what the applied items leave of the opening rows, in the order of their stamps
 abbrev pub IsReplay : Rows → Replaying → Type 0
-IsReplay opening r = AreDistinct r.applied → r.rows ≡ after opening (in_order r.applied)
+IsReplay opening r = AreDistinct r.applied → r.rows ≡ rows_after opening (in_order r.applied)
 
 -- after want of memory a front of the writes that the answer would have made is made, and nothing else has changed
 pub record HasFailed (p : Played) (next : Option Entry) (old new : Replaying) : Type 0 where

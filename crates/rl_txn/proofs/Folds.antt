@@ -7,7 +7,7 @@ use Rattle.std.proofs.Math.Nat.{add-mul-mod_self_right}
 use Rattle.std.proofs.lemmas.List.Sums.{sum_by_push}
 use Rattle.rl_value.specs.Rows.{Rows}
 use Rattle.rl_txn.specs.Run.{Overlay, row_seen, column_of, scan_sum}
-use Rattle.rl_txn.specs.Serial.{with_write, after_writes, after}
+use Rattle.rl_txn.specs.Serial.{with_write, after_writes, rows_after}
 use Rattle.rl_txn.specs.declared.write.Write.{Write}
 use Rattle.rl_txn.specs.declared.item.Item.{Item}
 
@@ -42,6 +42,6 @@ pub after_writes_more : (rows : Rows) (writes : List Write) (i : ℕ) (w : Write
 after_writes_more rows writes i w within at =
     sym (ap (after_writes rows) (take_more writes i w within) ∙ after_writes-append rows (take i writes) (get_or writes i w ∷ []) ∙ ap (λ x. with_write (after_writes rows (take i writes)) x) (sym at))
 
-pub after-append : (rows : Rows) (xs ys : List Item) → after rows (xs ++ ys) ≡ after (after rows xs) ys
-after-append rows [] ys = refl
-after-append rows (x ∷ xs) ys = after-append (after_writes rows x.writes) xs ys
+pub rows_after-append : (rows : Rows) (xs ys : List Item) → rows_after rows (xs ++ ys) ≡ rows_after (rows_after rows xs) ys
+rows_after-append rows [] ys = refl
+rows_after-append rows (x ∷ xs) ys = rows_after-append (after_writes rows x.writes) xs ys

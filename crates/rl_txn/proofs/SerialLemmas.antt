@@ -13,17 +13,17 @@ use Rattle.rl_base.specs.declared.stamp.Stamp.{Stamp}
 use Rattle.rl_value.specs.Rows.{Rows}
 use Rattle.rl_value.specs.Tables.{Table}
 use Rattle.rl_txn.specs.Run.{run}
-use Rattle.rl_txn.specs.Serial.{after_writes, after, numbered, request_of, Runs, indexes_of, requests_from, IsListByList}
+use Rattle.rl_txn.specs.Serial.{after_writes, rows_after, numbered, request_of, Runs, indexes_of, requests_from, IsListByList}
 use Rattle.rl_txn.specs.declared.op.Op.{Op}
 use Rattle.rl_txn.specs.declared.item.Item.{Item}
-use Rattle.rl_txn.proofs.Folds.{after-append, range_push}
+use Rattle.rl_txn.proofs.Folds.{rows_after-append, range_push}
 
 abbrev Requests : Type 0
 Requests = List (List (List Op))
 
 -- one more item after others that ran
 pub runs_push : (tables : List Table) (lists : Requests) (rows : Rows) (items : List Item) (item : Item) (txn : List Op) → Runs tables lists rows items → request_of lists item ≡ Some txn
-    → run tables txn (after rows items) ≡ (item.reply, item.writes) → Runs tables lists rows (items ++ item ∷ [])
+    → run tables txn (rows_after rows items) ≡ (item.reply, item.writes) → Runs tables lists rows (items ++ item ∷ [])
 runs_push tables lists rows [] item txn runs is ran = (subst (λ o. IsSomeAnd o (λ t. run tables t rows ≡ (item.reply, item.writes))) (sym is) ran, tt)
 runs_push tables lists rows (x ∷ items) item txn runs is ran = (runs.0, runs_push tables lists (after_writes rows x.writes) items item txn runs.1 is ran)
 
@@ -60,7 +60,7 @@ pub record AreDone (tables : List Table) (lists : Requests) (opening : Rows) (do
   pub names : map name_of items ≡ done
   pub stamps : map stamp_of items ≡ stamps_upto (length items)
   pub runs : Runs tables lists opening items
-  pub rows_are : rows ≡ after opening items
+  pub rows_are : rows ≡ rows_after opening items
 
 pub none_done : (tables : List Table) (lists : Requests) (opening : Rows) → AreDone tables lists opening [] [] opening
 none_done tables lists opening = record { names = refl; stamps = refl; runs = tt; rows_are = refl }
@@ -79,7 +79,7 @@ one_done tables lists opening done items rows item txn worker index so_far stamp
       stamps = map-append stamp_of items (item ∷ []) ∙ ap (λ stamps. stamps ++ stamp_of item ∷ []) so_far.stamps ∙ ap (λ (p : ℕ × ℕ). stamps_upto (length items) ++ p ∷ []) stamped
           ∙ sym (map_range_push {X = ℕ × ℕ} (λ seq. (1, seq)) 2 (length items)) ∙ ap stamps_upto (sym count);
       runs = runs_push tables lists opening items item txn so_far.runs request (ap (run tables txn) (sym so_far.rows_are) ∙ ran);
-      rows_are = ap (λ r. after_writes r item.writes) so_far.rows_are ∙ sym (after-append opening items (item ∷ []));
+      rows_are = ap (λ r. after_writes r item.writes) so_far.rows_are ∙ sym (rows_after-append opening items (item ∷ []));
     }
 
 -- the next request of a list that is being done

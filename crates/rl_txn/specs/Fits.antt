@@ -1,9 +1,10 @@
 -- What a transaction may name: tables and columns that are there, registers, and counts in range.
-use Rattle.std.specs.Prelude.{◌≡◌, ◌^◌, ◌<◌, ◌≤◌, List, length, All, sum_by}
-use Rattle.rl_value.specs.Tables.{Table, columns_of}
+use Rattle.std.specs.Prelude.{◌≡◌, ℕ, ◌^◌, ◌<◌, ◌≤◌, List, length, All, sum_by, Option, IfSome}
+use Rattle.rl_value.specs.Tables.{Table, size_of, columns_of}
 use Rattle.rl_txn.specs.declared.op.Operand.{Operand}
 use Rattle.rl_txn.specs.declared.op.Operand.TheVariants.{Reg, Num}
 use Rattle.rl_txn.specs.declared.op.Op.{Op}
+use Rattle.rl_txn.specs.declared.write.Write.{Write}
 use Rattle.rl_txn.specs.declared.op.Op.TheVariants.{Set, Add, Sub, Mul, Get, Has, Put, Del, Scan, Need, Skip, Out}
 
 -- a register is one of 16, and a number has 64 bits
@@ -35,3 +36,13 @@ pub record ListsFit (tables : List Table) (lists : List (List (List Op))) : Type
   pub each : All (All (TxnFits tables)) lists
   pub workers : length lists ≤ 16
   pub requests : sum_by length lists ≤ 8192
+
+-- a row, where there is one, has a table's columns
+abbrev pub RowHas : (columns : ℕ) → Option (List ℕ) → Type 0
+RowHas columns row = IfSome row (λ cells. length cells ≡ columns)
+
+-- a write is at a key that is there, with its table's columns
+abbrev pub WriteFits : List Table → Write → Type 0
+WriteFits tables w =
+    (w.table < length tables) × (w.key < size_of tables w.table)
+    × RowHas (columns_of tables w.table) w.row

@@ -26,9 +26,9 @@ after_writes rows [] = rows
 after_writes rows (w ∷ writes) = after_writes (with_write rows w) writes
 
 -- the rows after the writes of some items, in order
-abbrev pub after : Rows → List Item → Rows
-after rows [] = rows
-after rows (item ∷ items) = after (after_writes rows item.writes) items
+abbrev pub rows_after : Rows → List Item → Rows
+rows_after rows [] = rows
+rows_after rows (item ∷ items) = rows_after (after_writes rows item.writes) items
 
 -- the element of a number, counted from 1
 abbrev pub numbered : {X : Type 0} → List X → ℕ → Option X

@@ -3,7 +3,7 @@
 ghost use Rattle.std.specs.Prelude.{◌≡◌, ◌+◌, ◌<◌, ◌^◌, ◌∷◌, [], ◌++◌, Some, IfOk, OnOk};
 ghost use Rattle.rl_txn.specs.Fits.{TxnFits, ListsFit};
 ghost use Rattle.rl_txn.specs.Run.{run};
-ghost use Rattle.rl_txn.specs.Serial.{after_writes, after, IsListByList};
+ghost use Rattle.rl_txn.specs.Serial.{after_writes, rows_after, IsListByList};
 
 use crate::item::{Item, Items, apply};
 use crate::op::{Lists, Txn};
@@ -24,7 +24,7 @@ pub fn run_serially(
 ) -> Result<Items, Memory>
     requires { ListsFit schema.now lists.now }
     ensures items { IfOk result (λ items. IsListByList schema.now lists.now m.old items) }
-    ensures rows { IfOk result (λ items. m.new ≡ after m.old items) }
+    ensures rows { IfOk result (λ items. m.new ≡ rows_after m.old items) }
 {
     let mut items = Items::new(alloc);
     let mut worker = 0;

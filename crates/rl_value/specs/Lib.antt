@@ -1,3 +1,4 @@
+pub mod Cells
 pub mod Declare
 pub mod Fits
 pub mod Names
