@@ -1,0 +1,2 @@
+//! Tests of families, the queue of replies and replicas.
+#![tactic(auto)]
