@@ -1,3 +1,4 @@
 pub mod ListsLemmas
 pub mod NumberLemmas
+pub mod OrderLemmas
 pub mod Turns

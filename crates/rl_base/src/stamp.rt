@@ -1,6 +1,7 @@
 //! Stamps, in which every commit gets its place in the serial order.
 
 ghost use Rattle.std.specs.Prelude.{◌≡◌, ◌<◌, ◌^◌};
+ghost use Rattle.rl_base.specs.Order.{is_below};
 ghost use Rattle.rl_base.specs.Stamps.{packed};
 
 /// An epoch, and a number drawn in it.
@@ -31,4 +32,11 @@ pub fn unpack(x: u64) -> Stamp
         epoch: (x / (1 << 40)) as u32,
         seq: x % (1 << 40),
     }
+}
+
+/// Whether one stamp is below another: by epoch, then by seq.
+pub fn is_below(s: Stamp, t: Stamp) -> bool
+    ensures { result ≡ is_below s t }
+{
+    s.epoch < t.epoch || s.epoch == t.epoch && s.seq < t.seq
 }

@@ -1,29 +1,16 @@
 -- What is gathered along a list, one element further.
-use Rattle.std.proofs.Common.{append-nil, zero, suc, ◌≡◌, ℕ, ◌+◌, ◌-◌, ◌<◌, min, max, List, [], ◌∷◌, ◌++◌, length, get_or, map, take, Option, Some, None, unwrap_or, refl, sym, ap, ◌∙◌, arith, inl, inr}
-use Rattle.std.specs.Prelude.{slice_get, ◌==◌}
-use Rattle.std.proofs.lemmas.List.{take_more, map-append}
-use Rattle.std.proofs.lemmas.Bool.{cases_Bool}
+use Rattle.std.proofs.Common.{◌≡◌, ℕ, zero, suc, ◌+◌, ◌-◌, ◌<◌, min, max, List, [], ◌∷◌, ◌++◌, length, get_or, map, take, Option, Some, None, unwrap_or, refl, sym, ap, ◌∙◌, arith}
+use Rattle.std.specs.Prelude.{slice_get}
+use Rattle.std.proofs.lemmas.List.{append-nil, take_more, map-append}
 use Rattle.std.specs.Option.{option_map_or, option_map, option_or}
 use Rattle.rl_base.specs.declared.stamp.Stamp.{Stamp}
 use Rattle.rl_txn.specs.declared.item.Item.{Item}
 use Rattle.rl_txn.specs.declared.batch.Batch.{Batch}
-use Rattle.rl_cut.specs.Families.{stamps_of, stamps, first_stamp, last_stamp, least, last_among}
+use Rattle.rl_families.specs.Logs.{stamps_in_batch, stamps_along, first_stamp, last_stamp, last_seq_among}
+use Rattle.rl_families.specs.Families.{least}
+use Rattle.rl_families.proofs.Logs.{stamps_along-append, last_seq_among-append}
 
--- the greatest of an epoch in two lists is the greater of both
-pub last_among-append : (xs ys : List Stamp) (e : ℕ) → last_among (xs ++ ys) e ≡ max (last_among ys e) (last_among xs e)
-last_among-append [] ys e = max_zero (last_among ys e)
-  where
-    max_zero : (n : ℕ) → n ≡ max n 0
-    max_zero n = omega arith
-last_among-append (x ∷ xs) ys e = elim (cases_Bool (x.epoch == e)) [
-  | inl t ↦ rw t (rw (last_among-append xs ys e) (three x.seq (last_among ys e) (last_among xs e)))
-  | inr t ↦ rw t (last_among-append xs ys e)
-]
-  where
-    three : (a b c : ℕ) → max a (max b c) ≡ max b (max a c)
-    three a b c = omega arith
-
--- the stamps of one more item, and of one more batch
+-- the stamps_along of one more item, and of one more batch
 stamps_more : (xs : List Item) (i : ℕ) (x : Item) → i < length xs → x ≡ get_or xs i x → map (λ (y : Item). y.stamp) (take (i + 1) xs) ≡ map (λ (y : Item). y.stamp) (take i xs) ++ x.stamp ∷ []
 stamps_more xs i x l e = ap (map (λ (y : Item). y.stamp)) (take_more xs i x l) ∙ map_push (take i xs) ∙ ap (λ (y : Item). map (λ (z : Item). z.stamp) (take i xs) ++ y.stamp ∷ []) (sym e)
   where
@@ -31,28 +18,19 @@ stamps_more xs i x l e = ap (map (λ (y : Item). y.stamp)) (take_more xs i x l) 
     map_push [] = refl
     map_push (y ∷ ys) = ap (λ zs. y.stamp ∷ zs) (map_push ys)
 
-pub stamps-append : (xs ys : List Batch) → stamps (xs ++ ys) ≡ stamps xs ++ stamps ys
-stamps-append [] ys = refl
-stamps-append (x ∷ xs) ys = ap (λ zs. stamps_of x ++ zs) (stamps-append xs ys) ∙ assoc (stamps_of x)
-  where
-    assoc : (ss : List Stamp) → ss ++ (stamps xs ++ stamps ys) ≡ (ss ++ stamps xs) ++ stamps ys
-    assoc [] = refl
-    assoc (s ∷ ss) = ap (λ zs. s ∷ zs) (assoc ss)
-
--- the last of an epoch among the stamps of one more item, and of one more batch
+-- the last_seq of an epoch among the stamps_along of one more item, and of one more batch
 pub last_seq_more_item : (xs : List Item) (i : ℕ) (x : Item) (e : ℕ) → i < length xs → x ≡ get_or xs i x
-    → max (last_among (x.stamp ∷ []) e) (last_among (map (λ (y : Item). y.stamp) (take i xs)) e) ≡ last_among (map (λ (y : Item). y.stamp) (take (i + 1) xs)) e
-last_seq_more_item xs i x e l p = sym (ap (λ ss. last_among ss e) (stamps_more xs i x l p) ∙ last_among-append (map (λ (y : Item). y.stamp) (take i xs)) (x.stamp ∷ []) e)
+    → max (last_seq_among (x.stamp ∷ []) e) (last_seq_among (map (λ (y : Item). y.stamp) (take i xs)) e) ≡ last_seq_among (map (λ (y : Item). y.stamp) (take (i + 1) xs)) e
+last_seq_more_item xs i x e l p = sym (ap (λ ss. last_seq_among ss e) (stamps_more xs i x l p) ∙ last_seq_among-append (map (λ (y : Item). y.stamp) (take i xs)) (x.stamp ∷ []) e)
 
-batches_more : (xs : List Batch) (i : ℕ) (x : Batch) → i < length xs → x ≡ get_or xs i x → stamps (take (i + 1) xs) ≡ stamps (take i xs) ++ stamps_of x
-batches_more xs i x l p = ap stamps (take_more xs i x l) ∙ stamps-append (take i xs) (get_or xs i x ∷ []) ∙ ap (λ ss. stamps (take i xs) ++ ss) (append-nil (stamps_of (get_or xs i x)) ∙ ap stamps_of (sym p))
+batches_more : (xs : List Batch) (i : ℕ) (x : Batch) → i < length xs → x ≡ get_or xs i x → stamps_along (take (i + 1) xs) ≡ stamps_along (take i xs) ++ stamps_in_batch x
+batches_more xs i x l p = ap stamps_along (take_more xs i x l) ∙ stamps_along-append (take i xs) (get_or xs i x ∷ []) ∙ ap (λ ss. stamps_along (take i xs) ++ ss) (append-nil (stamps_in_batch (get_or xs i x)) ∙ ap stamps_in_batch (sym p))
 
 pub last_seq_more : (xs : List Batch) (i : ℕ) (x : Batch) (e : ℕ) → i < length xs → x ≡ get_or xs i x
-    → max (last_among (stamps_of x) e) (last_among (stamps (take i xs)) e) ≡ last_among (stamps (take (i + 1) xs)) e
-last_seq_more xs i x e l p = sym (ap (λ ss. last_among ss e) (batches_more xs i x l p) ∙ last_among-append (stamps (take i xs)) (stamps_of x) e)
+    → max (last_seq_among (stamps_in_batch x) e) (last_seq_among (stamps_along (take i xs)) e) ≡ last_seq_among (stamps_along (take (i + 1) xs)) e
+last_seq_more xs i x e l p = sym (ap (λ ss. last_seq_among ss e) (batches_more xs i x l p) ∙ last_seq_among-append (stamps_along (take i xs)) (stamps_in_batch x) e)
 
--- the last stamp of two lists is that of the second, if it has one
-
+-- the last_seq stamp of two lists is that of the second, if it has one
 pub last_stamp-append : (xs ys : List Stamp) → last_stamp (xs ++ ys) ≡ option_or (last_stamp ys) (last_stamp xs)
 last_stamp-append [] [] = refl
 last_stamp-append [] (y ∷ ys) = nothing_before (y ∷ ys)
@@ -68,10 +46,10 @@ last_stamp-append (x ∷ []) (y ∷ ys) = has_last y ys (Some x)
 last_stamp-append (x ∷ (z ∷ zs)) ys = last_stamp-append (z ∷ zs) ys
 
 pub last_stamp_more : (xs : List Batch) (i : ℕ) (x : Batch) → i < length xs → x ≡ get_or xs i x
-    → option_or (last_stamp (stamps_of x)) (last_stamp (stamps (take i xs))) ≡ last_stamp (stamps (take (i + 1) xs))
-last_stamp_more xs i x l p = sym (ap last_stamp (batches_more xs i x l p) ∙ last_stamp-append (stamps (take i xs)) (stamps_of x))
+    → option_or (last_stamp (stamps_in_batch x)) (last_stamp (stamps_along (take i xs))) ≡ last_stamp (stamps_along (take (i + 1) xs))
+last_stamp_more xs i x l p = sym (ap last_stamp (batches_more xs i x l p) ∙ last_stamp-append (stamps_along (take i xs)) (stamps_in_batch x))
 
--- the last item has the last stamp
+-- the last_seq item has the last_seq stamp
 last_at : (xs : List Item) (n : ℕ) → length xs ≡ suc n → option_map (λ (x : Item). x.stamp) (slice_get xs n) ≡ last_stamp (map (λ (x : Item). x.stamp) xs)
 last_at [] n e = absurd (omega arith)
 last_at (x ∷ []) zero e = refl

@@ -1,6 +1,3 @@
 pub mod Folds
-pub mod Sorting
-pub mod Stamps
-pub mod Nesting
-pub mod Members
-pub mod Told
+pub mod StableSort
+pub mod Appending

@@ -1,4 +1,1 @@
-pub mod Order
-pub mod Families
-pub mod Laws
-pub mod Leaders
+pub mod Refusals

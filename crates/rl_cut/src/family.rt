@@ -2,12 +2,13 @@
 
 ghost use Rattle.std.specs.Prelude.{◌≡◌, ◌<◌, ◌≤◌, ◌-◌, ◌++◌, ◌∷◌, [], Err, IfSome, IfNone, IfOk, OnOk, OnErr, IsOkUnless, length, filter, map, replicate, slice_set, None};
 ghost use Rattle.std.specs.List.{flat_map};
-ghost use Rattle.rl_cut.specs.Families.{stamps_of, items_of, stamps, items, IsRising, AllRise, first_stamp, last_stamp, top, last, last_among, least, least_top, reached, bound_of, watermark, counts, history, log_of, order_refusal, refusal};
+ghost use Rattle.rl_families.specs.Logs.{stamps_in_batch, items_in_batch, stamps_along, items_along, IsRising, first_stamp, last_stamp, top_epoch, last_seq, last_seq_among};
+ghost use Rattle.rl_families.specs.Families.{AllRise, least_top, all_reached, bound_of, watermark, is_counted, history};
+ghost use Rattle.rl_cut.specs.Refusals.{log_of_stream, order_refusal, extend_refusal};
 
-use crate::order::is_below;
 use rl_base::bound::Bound;
 use rl_base::memory::Memory;
-use rl_base::stamp::Stamp;
+use rl_base::stamp::{Stamp, is_below};
 use rl_txn::batch::{Batch, Batches};
 use rl_txn::item::{Item, Items};
 use std::alloc::Global;
@@ -23,7 +24,7 @@ pub struct Family {
 impl Model for Family {
     ghost use Rattle.std.specs.Prelude.{List};
     ghost use Rattle.rl_txn.specs.declared.batch.Batch.{Batch};
-    ghost use Rattle.rl_cut.specs.Families.{AllRise};
+    ghost use Rattle.rl_families.specs.Families.{AllRise};
 
     ghost Value = { List (List Batch) };
 
@@ -73,13 +74,13 @@ impl Family {
     pub fn extend(&mut self, stream: u32, batch: Batch) -> Result<(), ExtendError>
         requires first_stream { 1 ≤ stream }
         requires last_stream { stream ≤ length self.old }
-        requires rising { IsRising (stamps_of batch) }
-        ensures extended { OnOk result (self.new ≡ slice_set self.old (stream - 1) (log_of self.old stream ++ batch ∷ [])) }
-        ensures refused { IfSome (refusal self.old stream batch) (λ e. result ≡ Err e) }
-        ensures else_memory { IfNone (refusal self.old stream batch) (IsOkUnless result ExtendError.Memory) }
+        requires rising { IsRising (stamps_in_batch batch) }
+        ensures extended { OnOk result (self.new ≡ slice_set self.old (stream - 1) (log_of_stream self.old stream ++ batch ∷ [])) }
+        ensures refused { IfSome (extend_refusal self.old stream batch) (λ e. result ≡ Err e) }
+        ensures else_memory { IfNone (extend_refusal self.old stream batch) (IsOkUnless result ExtendError.Memory) }
         ensures unchanged { OnErr result (self.new ≡ self.old) }
     {
-        match self.refusal(stream, &batch) {
+        match self.extend_refusal(stream, &batch) {
             Some(e) => Err(e),
             None => Ok(self.append(stream, batch)?),
         }
@@ -89,9 +90,9 @@ impl Family {
     fn append(&mut self, stream: u32, batch: Batch) -> Result<(), Memory>
         requires first_stream { 1 ≤ stream }
         requires last_stream { stream ≤ length self.old }
-        requires rising { IsRising (stamps_of batch) }
-        requires free { refusal self.old stream batch ≡ None }
-        ensures extended { OnOk result (self.new ≡ slice_set self.old (stream - 1) (log_of self.old stream ++ batch ∷ [])) }
+        requires rising { IsRising (stamps_in_batch batch) }
+        requires free { extend_refusal self.old stream batch ≡ None }
+        ensures extended { OnOk result (self.new ≡ slice_set self.old (stream - 1) (log_of_stream self.old stream ++ batch ∷ [])) }
         ensures unchanged { OnErr result (self.new ≡ self.old) }
     {
         let log = &mut self.logs[stream as usize - 1];
@@ -100,10 +101,10 @@ impl Family {
     }
 
     /// Why a batch can't be appended, if it can't.
-    fn refusal(&self, stream: u32, batch: &Batch) -> Option<ExtendError>
+    fn extend_refusal(&self, stream: u32, batch: &Batch) -> Option<ExtendError>
         requires first_stream { 1 ≤ stream }
         requires last_stream { stream ≤ length self.now }
-        ensures { result ≡ refusal self.now stream batch.now }
+        ensures { result ≡ extend_refusal self.now stream batch.now }
     {
         let last = last_of_log(&self.logs[stream as usize - 1]);
         order_refusal(last, first_of(batch))
@@ -123,7 +124,7 @@ impl Family {
     /// The items that count, stream by stream.
     fn counted(&self, alloc: Global) -> Result<Vec<Item>, Memory>
         ensures rising { AllRise self.now }
-        ensures counted { IfOk result (λ counted. counted.items ≡ filter (λ x. counts self.now x.stamp) (flat_map items self.now)) }
+        ensures counted { IfOk result (λ counted. counted.items ≡ filter (λ x. is_counted self.now x.stamp) (flat_map items_along self.now)) }
     {
         let mut counted = Vec::new(alloc);
         for log in &self.logs {
@@ -133,7 +134,7 @@ impl Family {
     }
 
     fn push_log(&self, alloc: Global, log: &[Batch], counted: &mut Vec<Item>) -> Result<(), Memory>
-        ensures { OnOk result (counted.new.items ≡ counted.old.items ++ filter (λ x. counts self.now x.stamp) (items log.now)) }
+        ensures { OnOk result (counted.new.items ≡ counted.old.items ++ filter (λ x. is_counted self.now x.stamp) (items_along log.now)) }
     {
         for batch in log {
             self.push_batch(alloc, batch, counted)?;
@@ -147,7 +148,7 @@ impl Family {
         batch: &Batch,
         counted: &mut Vec<Item>,
     ) -> Result<(), Memory>
-        ensures { OnOk result (counted.new.items ≡ counted.old.items ++ filter (λ x. counts self.now x.stamp) (items_of batch.now)) }
+        ensures { OnOk result (counted.new.items ≡ counted.old.items ++ filter (λ x. is_counted self.now x.stamp) (items_in_batch batch.now)) }
     {
         match batch {
             Batch::Items(items) => self.push_items(alloc, items.as_slice(), counted),
@@ -162,10 +163,10 @@ impl Family {
         items: &[Item],
         counted: &mut Vec<Item>,
     ) -> Result<(), Memory>
-        ensures { OnOk result (counted.new.items ≡ counted.old.items ++ filter (λ x. counts self.now x.stamp) items.now) }
+        ensures { OnOk result (counted.new.items ≡ counted.old.items ++ filter (λ x. is_counted self.now x.stamp) items.now) }
     {
         for item in items {
-            if self.counts(item.stamp) {
+            if self.is_counted(item.stamp) {
                 counted.push(item.copy(alloc)?)?;
             }
         }
@@ -173,10 +174,10 @@ impl Family {
     }
 
     /// Whether an item of this stamp counts.
-    fn counts(&self, stamp: Stamp) -> bool
-        ensures { result ≡ counts self.now stamp }
+    fn is_counted(&self, stamp: Stamp) -> bool
+        ensures { result ≡ is_counted self.now stamp }
     {
-        stamp.epoch > 0 && stamp.epoch <= self.least_top() && stamp.seq <= self.reached(stamp.epoch)
+        stamp.epoch > 0 && stamp.epoch <= self.least_top() && stamp.seq <= self.all_reached(stamp.epoch)
     }
 
     /// The least top of all logs.
@@ -192,8 +193,8 @@ impl Family {
     }
 
     /// The least of the last seqs of an epoch in all logs.
-    fn reached(&self, epoch: u32) -> u64
-        ensures { result ≡ reached self.now epoch }
+    fn all_reached(&self, epoch: u32) -> u64
+        ensures { result ≡ all_reached self.now epoch }
     {
         let mut least = None;
         for log in &self.logs {
@@ -212,7 +213,7 @@ impl Family {
         if epoch > top {
             return Bound::Beyond;
         }
-        let seq = self.reached(epoch);
+        let seq = self.all_reached(epoch);
         if epoch < top {
             Bound::Final { seq }
         } else {
@@ -228,7 +229,7 @@ impl Family {
         if top == 0 {
             (0, 0)
         } else {
-            (top, self.reached(top))
+            (top, self.all_reached(top))
         }
     }
 }
@@ -250,13 +251,13 @@ fn order_refusal(last: Option<Stamp>, first: Option<Stamp>) -> Option<ExtendErro
 
 /// The epoch of the last stamp of a log, or 0.
 fn top_of(log: &Batches) -> u32
-    ensures { result ≡ top log.now }
+    ensures { result ≡ top_epoch log.now }
 {
     last_of_log(log).map_or(0, |stamp| stamp.epoch)
 }
 
 fn last_of_log(log: &Batches) -> Option<Stamp>
-    ensures { result ≡ last_stamp (stamps log.now) }
+    ensures { result ≡ last_stamp (stamps_along log.now) }
 {
     let mut last = None;
     for batch in log.as_slice() {
@@ -266,7 +267,7 @@ fn last_of_log(log: &Batches) -> Option<Stamp>
 }
 
 fn last_of(batch: &Batch) -> Option<Stamp>
-    ensures { result ≡ last_stamp (stamps_of batch.now) }
+    ensures { result ≡ last_stamp (stamps_in_batch batch.now) }
 {
     match batch {
         Batch::Items(items) => last_of_items(items.as_slice()),
@@ -278,15 +279,12 @@ fn last_of(batch: &Batch) -> Option<Stamp>
 fn last_of_items(items: &[Item]) -> Option<Stamp>
     ensures { result ≡ last_stamp (map (λ item. item.stamp) items.now) }
 {
-    match items.last() {
-        Some(item) => Some(item.stamp),
-        None => None,
-    }
+    items.last().map(|item| item.stamp)
 }
 
 /// The first stamp of a batch.
 fn first_of(batch: &Batch) -> Option<Stamp>
-    ensures { result ≡ first_stamp (stamps_of batch.now) }
+    ensures { result ≡ first_stamp (stamps_in_batch batch.now) }
 {
     match batch {
         Batch::Items(items) => first_of_items(items.as_slice()),
@@ -298,15 +296,12 @@ fn first_of(batch: &Batch) -> Option<Stamp>
 fn first_of_items(items: &[Item]) -> Option<Stamp>
     ensures { result ≡ first_stamp (map (λ item. item.stamp) items.now) }
 {
-    match items.first() {
-        Some(item) => Some(item.stamp),
-        None => None,
-    }
+    items.first().map(|item| item.stamp)
 }
 
 /// The greatest seq of an epoch in a log, or 0.
 fn last_seq(log: &Batches, epoch: u32) -> u64
-    ensures { result ≡ last log.now epoch }
+    ensures { result ≡ last_seq log.now epoch }
 {
     let mut last = 0;
     for batch in log.as_slice() {
@@ -316,7 +311,7 @@ fn last_seq(log: &Batches, epoch: u32) -> u64
 }
 
 fn last_seq_in(batch: &Batch, epoch: u32) -> u64
-    ensures { result ≡ last_among (stamps_of batch.now) epoch }
+    ensures { result ≡ last_seq_among (stamps_in_batch batch.now) epoch }
 {
     match batch {
         Batch::Items(items) => last_seq_of(items.as_slice(), epoch),
@@ -326,7 +321,7 @@ fn last_seq_in(batch: &Batch, epoch: u32) -> u64
 }
 
 fn last_seq_of(items: &[Item], epoch: u32) -> u64
-    ensures { result ≡ last_among (map (λ item. item.stamp) items.now) epoch }
+    ensures { result ≡ last_seq_among (map (λ item. item.stamp) items.now) epoch }
 {
     let mut last = 0;
     for item in items {
@@ -337,90 +332,7 @@ fn last_seq_of(items: &[Item], epoch: u32) -> u64
 
 /// The seq of a stamp of this epoch, and 0 of another.
 fn seq_at(stamp: Stamp, epoch: u32) -> u64
-    ensures { result ≡ last_among (stamp ∷ []) epoch }
+    ensures { result ≡ last_seq_among (stamp ∷ []) epoch }
 {
     if stamp.epoch == epoch { stamp.seq } else { 0 }
-}
-
-#[cfg(test)]
-mod tests {
-    use super::*;
-    use rl_base::list::Seq;
-    use rl_txn::write::{End, Reply};
-    use std::test::Fail;
-
-    fn item(alloc: Global, epoch: u32, seq: u64) -> Item
-        ensures { result.stamp ≡ record { epoch = epoch; seq = seq } }
-    {
-        Item {
-            stamp: Stamp { epoch, seq },
-            worker: 1,
-            index: 1,
-            reply: Reply {
-                outs: Seq::new(alloc),
-                end: End::Done,
-            },
-            writes: Seq::new(alloc),
-        }
-    }
-
-    fn one_item(alloc: Global, epoch: u32, seq: u64) -> Result<Batch, Memory>
-        ensures { IfOk result (λ batch. length (stamps_of batch) ≡ 1) }
-    {
-        let mut items = Items::new(alloc);
-        items.push(item(alloc, epoch, seq))?;
-        Ok(Batch::Items(items))
-    }
-
-    fn opened(epoch: u32) -> Batch
-        ensures { length (stamps_of result) ≡ 1 }
-    {
-        Batch::Opened(Stamp { epoch, seq: 1 })
-    }
-
-    fn extend(family: &mut Family, stream: u32, batch: Batch) -> Result<(), ExtendError>
-        requires first_stream { 1 ≤ stream }
-        requires last_stream { stream ≤ length family.old }
-        requires one { length (stamps_of batch) ≡ 1 }
-        ensures { length family.new ≡ length family.old }
-    {
-        family.extend(stream, batch)
-    }
-
-    fn two_streams(alloc: Global) -> Result<Family, ExtendError>
-        ensures { IfOk result (λ family. length family ≡ 2) }
-    {
-        let mut family = Family::new(alloc, 2)?;
-        extend(&mut family, 1, opened(1))?;
-        extend(&mut family, 1, one_item(alloc, 1, 10)?)?;
-        extend(&mut family, 2, opened(1))?;
-        extend(&mut family, 2, one_item(alloc, 1, 7)?)?;
-        extend(&mut family, 2, opened(2))?;
-        Ok(family)
-    }
-
-    fn stamps_in(rt: &impl std::process::Abort, items: &Items) -> (u32, u64) {
-        assert_eq!(rt; items.len(), 1);
-        let stamp = items.get(0).stamp;
-        (stamp.epoch, stamp.seq)
-    }
-
-    #[test]
-    fn a_stream_ahead(rt: HostRuntime) -> Result<(), Fail> {
-        let alloc = rt.alloc();
-        let mut family = two_streams(alloc)?;
-        assert_eq!(rt; family.watermark(), (1, 7));
-        assert_eq!(rt; stamps_in(&rt, &family.history(alloc)?), (1, 7));
-        assert_eq!(rt; family.bound(1), Bound::Rising { seq: 7 });
-        assert_eq!(rt; family.bound(2), Bound::Beyond);
-        extend(&mut family, 1, opened(2))?;
-        assert_eq!(rt; family.watermark(), (2, 1));
-        assert_eq!(rt; stamps_in(&rt, &family.history(alloc)?), (1, 7));
-        assert_eq!(rt; family.bound(1), Bound::Final { seq: 7 });
-        let late = extend(&mut family, 1, one_item(alloc, 1, 12)?);
-        let last = Stamp { epoch: 2, seq: 1 };
-        let got = Stamp { epoch: 1, seq: 12 };
-        assert_eq!(rt; late, Err(ExtendError::Order { last, got }));
-        Ok(())
-    }
 }

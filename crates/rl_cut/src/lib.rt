@@ -3,4 +3,3 @@
 
 pub mod family;
 pub mod laws;
-pub mod order;

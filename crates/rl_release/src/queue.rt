@@ -56,13 +56,9 @@ impl Queue {
         ensures due { IsSome result ↔ IsDue upto self.old }
         ensures unchanged { IfNone result (self.new ≡ self.old) }
     {
-        match self.items.front() {
-            Some(item) => {
-                if !is_up_to(item.stamp, upto) {
-                    return None;
-                }
-            }
-            None => return None,
+        let item = self.items.front()?;
+        if !is_up_to(item.stamp, upto) {
+            return None;
         }
         self.items.pop_front()
     }
@@ -73,43 +69,4 @@ fn is_up_to(stamp: Stamp, upto: u64) -> bool
     ensures { IsTrue result ↔ (packed stamp ≤ upto) }
 {
     u128::from(stamp.epoch) * (1 << 40) + u128::from(stamp.seq) <= u128::from(upto)
-}
-
-#[cfg(test)]
-mod tests {
-    use super::*;
-    use rl_base::list::Seq;
-    use rl_txn::write::{End, Reply};
-
-    fn item(alloc: Global, seq: u64) -> Item {
-        Item {
-            stamp: Stamp { epoch: 1, seq },
-            worker: 1,
-            index: 1,
-            reply: Reply {
-                outs: Seq::new(alloc),
-                end: End::Done,
-            },
-            writes: Seq::new(alloc),
-        }
-    }
-
-    fn released(queue: &mut Queue, seq: u64) -> Option<u64> {
-        let item = queue.release((1 << 40) + seq % 1000)?;
-        Some(item.stamp.seq)
-    }
-
-    #[test]
-    fn in_order_up_to_a_stamp(rt: HostRuntime) {
-        let mut queue = Queue::new(rt.alloc());
-        assert_eq!(rt; released(&mut queue, 9), None);
-        assert!(rt; queue.push(item(rt.alloc(), 2)).is_ok());
-        assert!(rt; queue.push(item(rt.alloc(), 4)).is_ok());
-        assert!(rt; queue.push(item(rt.alloc(), 3)).is_ok());
-        assert_eq!(rt; released(&mut queue, 1), None);
-        assert_eq!(rt; released(&mut queue, 3), Some(2));
-        assert_eq!(rt; released(&mut queue, 3), None);
-        assert_eq!(rt; released(&mut queue, 4), Some(4));
-        assert_eq!(rt; released(&mut queue, 4), Some(3));
-    }
 }

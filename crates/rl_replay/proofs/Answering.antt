@@ -7,10 +7,11 @@ use Rattle.rl_base.specs.declared.memory.Memory.{Memory}
 use Rattle.rl_value.specs.Rows.{Rows}
 use Rattle.rl_txn.specs.declared.item.Item.{Item}
 use Rattle.rl_replay.specs.declared.played.Played.{Played}
-use Rattle.rl_replay.specs.declared.played.Played.TheVariants.{Applied, Passed, Above, Empty}
+use Rattle.rl_replay.specs.declared.played.Played.TheVariants.{Applied}
 use Rattle.rl_replay.specs.Entries.{Entry}
-use Rattle.rl_replay.specs.Replay.{Replaying, item_in, after_answer, IsReplay, HasStamp, IsSameSet, AreTold}
-use Rattle.rl_replay.proofs.Replays.{replays, same_stamp}
+use Rattle.rl_replay.specs.Replay.{Replaying, item_in, after_answer, IsReplay, HasStamp, HaveSameStamps, IsSameSet, StampsIdentify}
+use Rattle.rl_base.proofs.OrderLemmas.{same_stamp}
+use Rattle.rl_replay.proofs.Replays.{replays}
 
 -- an answer that adds nothing and goes no step leaves all as it was
 pub still : (r : Replaying) (s : ℕ) → r ≡ record { applied = r.applied ++ []; played = slice_set r.played (s - 1) (slice_index r.played (s - 1) + 0); rows = r.rows; failed = r.failed }
@@ -23,9 +24,7 @@ still r s =
 -- every answer keeps a replay
 pub answer_replays : (opening : Rows) (r : Replaying) (s : ℕ) (next : Option Entry) (p : Played) → IsReplay opening r → IsReplay opening (after_answer r s next p)
 answer_replays opening r s next (Applied t) h = replays opening r.rows r.applied (item_in next) h
-answer_replays opening r s next (Passed t) h = replays opening r.rows r.applied None h
-answer_replays opening r s next (Above t w) h = replays opening r.rows r.applied None h
-answer_replays opening r s next Empty h = replays opening r.rows r.applied None h
+answer_replays opening r s next _ h = replays opening r.rows r.applied None h
 
 pub state_replays : (result : Result Played Memory) (old new : Replaying) (s : ℕ) (next : Option Entry) → IfOk result (λ p. new ≡ after_answer old s next p)
     → (opening : Rows) → IsReplay opening old → OnOk result (IsReplay opening new)
@@ -42,12 +41,9 @@ among items others told h x k =
 stamped : (items others : List Item) → ((x : Item) → Contains others x → Contains items x) → All (λ (x : Item). HasStamp items x.stamp) others
 stamped items others h k d l = let x = get_or others k d in let there = h x (Contains-get_or others k d l) in (there.0, x, there.1, there.2, (refl, refl))
 
-pub sets_then : (applied history : List Item) (b : Bool) → All (λ (x : Item). HasStamp applied x.stamp) history → (IsTrue b ↔ All (λ (x : Item). HasStamp history x.stamp) applied)
-    → AreTold applied history → (IsTrue b ↔ IsSameSet history applied)
-sets_then applied history b every other told = (
-  λ t. (among applied history told every, among history applied (λ x y i j e. sym (told y x j i (sym e))) (other.0 t)),
-  λ s. other.1 (stamped history applied s.1),
+-- where stamps identify items, lists with the same stamps have the same items
+pub same_sets : (applied history : List Item) (b : Bool) → (IsTrue b ↔ HaveSameStamps applied history) → StampsIdentify applied history → (IsTrue b ↔ IsSameSet history applied)
+same_sets applied history b same told = (
+  λ t. (among applied history told (same.0 t).0, among history applied (λ x y i j e. sym (told y x j i (sym e))) (same.0 t).1),
+  λ s. same.1 (stamped applied history s.0, stamped history applied s.1),
 )
-
-pub sets_else : (applied history : List Item) → (All (λ (x : Item). HasStamp applied x.stamp) history → ⊥) → IsSameSet history applied → ⊥
-sets_else applied history not_all s = not_all (stamped applied history s.0)

@@ -1,7 +1,6 @@
 pub mod Walk
 pub mod Places
 pub mod Stamped
-pub mod Sets
 pub mod Newer
 pub mod Replays
 pub mod Answering

@@ -1,27 +1,19 @@
 -- The newest stamps tell which writes are overwritten, one item further.
-use Rattle.std.proofs.Common.{◌≡◌, ℕ, List, [], ◌∷◌, ◌++◌, true, false, cond, not, ◌&&◌, Option, Some, None, refl, sym, ap, ◌∙◌, subst, arith, inl, inr, true≢false}
+use Rattle.std.proofs.Common.{◌≡◌, ℕ, List, [], ◌∷◌, ◌++◌, true, false, cond, not, ◌&&◌, Option, Some, None, refl, sym, ap, ◌∙◌, subst, inl, inr, true≢false}
 use Rattle.std.specs.List.{list_any}
 use Rattle.std.specs.FinMap.{get}
 use Rattle.std.proofs.lemmas.List.Elements.{filter_agree}
-use Rattle.std.proofs.lemmas.Bool.Decides.{nat_tests}
 use Rattle.std.proofs.lemmas.Bool.{cases_Bool, and_from, and_left, and_right, and_cases}
 use Rattle.rl_base.specs.declared.stamp.Stamp.{Stamp}
 use Rattle.rl_txn.specs.declared.item.Item.{Item}
 use Rattle.rl_txn.specs.declared.write.Write.{Write}
-use Rattle.rl_cut.specs.Order.{is_below}
-use Rattle.rl_cut.proofs.Sorting.{In}
-use Rattle.rl_cut.proofs.Stamps.{in_front, in_back, in_split}
+use Rattle.rl_base.specs.Order.{is_below}
+use Rattle.rl_base.proofs.OrderLemmas.{not_below_self, below_one_way, not_below_chain}
 use Rattle.rl_replay.specs.Replay.{is_at, writes_at, is_overwritten, newest_writes}
 use Rattle.rl_replay.specs.Newest.{Newest, is_old, fresh, stamped, IsNewestOf, IsNewest, AreNewest}
 use Rattle.rl_replay.proofs.Places.{at_same}
-use Rattle.rl_replay.proofs.Sets.{contains_in, in_contains, any_true, any_false, false_any, true_any}
-use Rattle.rl_replay.proofs.Stamped.{not_below_self, fresh_at}
-
-below_chain : (a b c : Stamp) → is_below b a ≡ false → is_below c b ≡ false → is_below c a ≡ false
-below_chain a b c h k = grind (arith, nat_tests)
-
-below_one_way : (a b : Stamp) → is_below a b ≡ true → is_below b a ≡ false
-below_one_way a b h = grind (arith, nat_tests)
+use Rattle.rl_families.proofs.Members.{In, in_front, in_back, in_split, contains_in, in_contains, any_true, any_false, false_any, true_any}
+use Rattle.rl_replay.proofs.Stamped.{fresh_at}
 
 -- the newest stamp of a place tells whether a write there is overwritten
 pub old_is : (applied : List Item) (q : ℕ × ℕ) (o : Option Stamp) (s : Stamp) → IsNewest applied q o → is_old o s ≡ is_overwritten applied s q
@@ -30,7 +22,7 @@ old_is applied q (Some t) s h = elim (cases_Bool (is_below s t)) [
   | inl b ↦ b ∙ sym (any_true (λ (y : Item). is_below s y.stamp && writes_at q y) applied h.item (contains_in applied h.item h.among)
       (and_from (is_below s h.item.stamp) (writes_at q h.item) (ap (is_below s) h.has ∙ b) h.writes))
   | inr b ↦ b ∙ sym (any_false (λ (y : Item). is_below s y.stamp && writes_at q y) applied (λ y i. elim (cases_Bool (writes_at q y)) [
-    | inl u ↦ and_left (is_below s y.stamp) (writes_at q y) (below_chain y.stamp t s (h.greatest y (in_contains applied y i) u) b)
+    | inl u ↦ and_left (is_below s y.stamp) (writes_at q y) (not_below_chain y.stamp t s (h.greatest y (in_contains applied y i) u) b)
     | inr u ↦ and_right (is_below s y.stamp) (writes_at q y) u
   ]))
 ]

@@ -1,5 +1,5 @@
 -- A replica's rows are what its items leave in the order of their stamps, in whatever order it applied them.
-use Rattle.std.proofs.Common.{◌≡◌, ◌≢◌, ◌⊎◌, ℕ, List, [], ◌∷◌, ◌++◌, length, get_or, Bool, true, false, cond, not, ◌||◌, ◌&&◌, ◌==◌, nat_lt, Option, Some, None, refl, sym, ap, ◌∙◌, subst, arith, inl, inr}
+use Rattle.std.proofs.Common.{◌≡◌, ◌≢◌, ℕ, List, [], ◌∷◌, ◌++◌, length, get_or, Bool, true, false, cond, not, ◌||◌, ◌&&◌, Option, Some, None, refl, sym, ap, ◌∙◌, subst, arith, inl, inr}
 use Rattle.std.specs.List.{list_any}
 use Rattle.std.specs.Prelude.{option_to_list}
 use Rattle.std.specs.FinMap.{get}
@@ -11,81 +11,56 @@ use Rattle.rl_value.specs.Rows.{Rows}
 use Rattle.rl_txn.specs.declared.item.Item.{Item}
 use Rattle.rl_txn.specs.declared.write.Write.{Write}
 use Rattle.rl_txn.specs.Serial.{after_writes, rows_after}
-use Rattle.rl_cut.specs.Order.{is_below, place, in_order}
-use Rattle.rl_cut.proofs.Sorting.{In, lower, Least, Sorted, in_order_sorted, lower_one_way}
-use Rattle.rl_replay.specs.Replay.{is_at, writes_at, is_overwritten, newest_writes, made, AreDistinct}
+use Rattle.rl_base.specs.Order.{is_below}
+use Rattle.rl_families.specs.Order.{insert_by_stamp, in_order}
+use Rattle.rl_families.proofs.Members.{In, in_contains}
+use Rattle.rl_families.proofs.Sorting.{lower, Sorted, in_order_sorted, lower_one_way, least_trans, least_at, in_in_order}
+use Rattle.rl_base.proofs.OrderLemmas.{below_other}
+use Rattle.rl_replay.specs.Replay.{is_at, writes_at, is_overwritten, newest_writes, writes_made, AreDistinct}
 use Rattle.rl_replay.proofs.Places.{same_rows, written, get-after_writes, left_by, get-rows_after, left_over, left_not, written-filter_all, written-filter_none, at_same}
-use Rattle.rl_replay.proofs.Sets.{in_contains}
 
 -- no item of a list has this stamp
 abbrev pub Free : Stamp → List Item → Type 0
 Free s xs = (y : Item) → In y xs → y.stamp ≢ s
 
-pub same_stamp : (s t : Stamp) → s.epoch ≡ t.epoch → s.seq ≡ t.seq → s ≡ t
-same_stamp s t a b = let make : ℕ → ℕ → Stamp = λ e k. record { epoch = e; seq = k } in ap (λ e. make e s.seq) a ∙ ap (make t.epoch) b
-
--- of two different stamps one is below
-above_free : (s t : Stamp) → is_below t s ≡ false → t ≢ s → is_below s t ≡ true
-above_free s t h n = elim (cases_Bool (is_below s t)) [
-  | inl b ↦ b
-  | inr b ↦ absurd (n (sym (same_stamp s t (epochs s.epoch t.epoch s.seq t.seq b h) (seqs s.epoch t.epoch s.seq t.seq b h))))
-]
-  where
-    epochs : (a b c d : ℕ) → (nat_lt a b || ((a == b) && nat_lt c d)) ≡ false → (nat_lt b a || ((b == a) && nat_lt d c)) ≡ false → a ≡ b
-    epochs a b c d p q = grind (arith, nat_tests)
-
-    seqs : (a b c d : ℕ) → (nat_lt a b || ((a == b) && nat_lt c d)) ≡ false → (nat_lt b a || ((b == a) && nat_lt d c)) ≡ false → c ≡ d
-    seqs a b c d p q = grind (arith, nat_tests)
-
 -- ---- putting an item in order ----
-place_after : (x y : Item) (ys : List Item) → lower y x ≡ true → place x (y ∷ ys) ≡ y ∷ place x ys
-place_after x y ys t = ap (λ b. cond b (y ∷ place x ys) (x ∷ y ∷ ys)) t
+insert_after : (x y : Item) (ys : List Item) → lower y x ≡ true → insert_by_stamp x (y ∷ ys) ≡ y ∷ insert_by_stamp x ys
+insert_after x y ys t = ap (λ b. cond b (y ∷ insert_by_stamp x ys) (x ∷ y ∷ ys)) t
 
-place_here : (x y : Item) (ys : List Item) → lower y x ≡ false → place x (y ∷ ys) ≡ x ∷ y ∷ ys
-place_here x y ys t = ap (λ b. cond b (y ∷ place x ys) (x ∷ y ∷ ys)) t
+insert_here : (x y : Item) (ys : List Item) → lower y x ≡ false → insert_by_stamp x (y ∷ ys) ≡ x ∷ y ∷ ys
+insert_here x y ys t = ap (λ b. cond b (y ∷ insert_by_stamp x ys) (x ∷ y ∷ ys)) t
 
 -- a lower item before a higher one
-place_pair : (x y : Item) (zs : List Item) → lower x y ≡ true → place x (place y zs) ≡ place y (place x zs)
-place_pair x y [] t = place_here x y [] (lower_one_way x y t) ∙ sym (place_after y x [] t)
-place_pair x y (z ∷ zs) t = elim (cases_Bool (lower z x)) [
+insert_pair : (x y : Item) (zs : List Item) → lower x y ≡ true → insert_by_stamp x (insert_by_stamp y zs) ≡ insert_by_stamp y (insert_by_stamp x zs)
+insert_pair x y [] t = insert_here x y [] (lower_one_way x y t) ∙ sym (insert_after y x [] t)
+insert_pair x y (z ∷ zs) t = elim (cases_Bool (lower z x)) [
   | inl b ↦ (let a : lower z y ≡ true = up x y z t b in
-      ap (place x) (place_after y z zs a) ∙ place_after x z (place y zs) b ∙ ap (λ l. z ∷ l) (place_pair x y zs t) ∙ sym (ap (place y) (place_after x z zs b) ∙ place_after y z (place x zs) a))
+      ap (insert_by_stamp x) (insert_after y z zs a) ∙ insert_after x z (insert_by_stamp y zs) b ∙ ap (λ l. z ∷ l) (insert_pair x y zs t) ∙ sym (ap (insert_by_stamp y) (insert_after x z zs b) ∙ insert_after y z (insert_by_stamp x zs) a))
   | inr b ↦ elim (cases_Bool (lower z y)) [
-    | inl a ↦ ap (place x) (place_after y z zs a) ∙ place_here x z (place y zs) b ∙ ap (λ l. x ∷ l) (sym (place_after y z zs a)) ∙ sym (ap (place y) (place_here x z zs b) ∙ place_after y x (z ∷ zs) t)
-    | inr a ↦ ap (place x) (place_here y z zs a) ∙ place_here x y (z ∷ zs) (lower_one_way x y t) ∙ ap (λ l. x ∷ l) (sym (place_here y z zs a)) ∙ sym (ap (place y) (place_here x z zs b) ∙ place_after y x (z ∷ zs) t)
+    | inl a ↦ ap (insert_by_stamp x) (insert_after y z zs a) ∙ insert_here x z (insert_by_stamp y zs) b ∙ ap (λ l. x ∷ l) (sym (insert_after y z zs a)) ∙ sym (ap (insert_by_stamp y) (insert_here x z zs b) ∙ insert_after y x (z ∷ zs) t)
+    | inr a ↦ ap (insert_by_stamp x) (insert_here y z zs a) ∙ insert_here x y (z ∷ zs) (lower_one_way x y t) ∙ ap (λ l. x ∷ l) (sym (insert_here y z zs a)) ∙ sym (ap (insert_by_stamp y) (insert_here x z zs b) ∙ insert_after y x (z ∷ zs) t)
   ]
 ]
   where
     up : (x y z : Item) → lower x y ≡ true → lower z x ≡ true → lower z y ≡ true
     up x y z p q = grind (arith, nat_tests)
 
-place_comm : (x y : Item) (zs : List Item) → x.stamp ≢ y.stamp → place x (place y zs) ≡ place y (place x zs)
-place_comm x y zs n = elim (cases_Bool (lower y x)) [
-  | inl t ↦ sym (place_pair y x zs t)
-  | inr t ↦ place_pair x y zs (above_free x.stamp y.stamp t (λ e. n (sym e)))
+insert_comm : (x y : Item) (zs : List Item) → x.stamp ≢ y.stamp → insert_by_stamp x (insert_by_stamp y zs) ≡ insert_by_stamp y (insert_by_stamp x zs)
+insert_comm x y zs n = elim (cases_Bool (lower y x)) [
+  | inl t ↦ sym (insert_pair y x zs t)
+  | inr t ↦ insert_pair x y zs (below_other x.stamp y.stamp t (λ e. n (sym e)))
 ]
 
-pub in_order-push : (xs : List Item) (x : Item) → Free x.stamp xs → in_order (xs ++ x ∷ []) ≡ place x (in_order xs)
+pub in_order-push : (xs : List Item) (x : Item) → Free x.stamp xs → in_order (xs ++ x ∷ []) ≡ insert_by_stamp x (in_order xs)
 in_order-push [] x f = refl
-in_order-push (y ∷ ys) x f = ap (place y) (in_order-push ys x (λ z i. f z (inr i))) ∙ place_comm y x (in_order ys) (f y (inl refl))
-
-in_place : (x y : Item) (zs : List Item) → In x (place y zs) → (x ≡ y) ⊎ In x zs
-in_place x y [] i = i
-in_place x y (z ∷ zs) i = elim (cases_Bool (lower z y)) [
-  | inl t ↦ elim (subst (In x) (place_after y z zs t) i) [ inl e ↦ inr (inl e) | inr j ↦ elim (in_place x y zs j) [ inl a ↦ inl a | inr b ↦ inr (inr b) ] ]
-  | inr t ↦ subst (In x) (place_here y z zs t) i
-]
-
-pub in_in_order : (x : Item) (ys : List Item) → In x (in_order ys) → In x ys
-in_in_order x [] i = i
-in_in_order x (y ∷ ys) i = elim (in_place x y (in_order ys) i) [ inl e ↦ inl e | inr j ↦ inr (in_in_order x ys j) ]
+in_order-push (y ∷ ys) x f = ap (insert_by_stamp y) (in_order-push ys x (λ z i. f z (inr i))) ∙ insert_comm y x (in_order ys) (f y (inl refl))
 
 -- a test of some item does not look at the order
-any_place : (f : Item → Bool) (x : Item) (ys : List Item) → list_any f (place x ys) ≡ (f x || list_any f ys)
-any_place f x [] = refl
-any_place f x (y ∷ ys) = elim (cases_Bool (lower y x)) [
-  | inl t ↦ ap (list_any f) (place_after x y ys t) ∙ ap (λ b. f y || b) (any_place f x ys) ∙ swap (f y) (f x) (list_any f ys)
-  | inr t ↦ ap (list_any f) (place_here x y ys t)
+any_insert : (f : Item → Bool) (x : Item) (ys : List Item) → list_any f (insert_by_stamp x ys) ≡ (f x || list_any f ys)
+any_insert f x [] = refl
+any_insert f x (y ∷ ys) = elim (cases_Bool (lower y x)) [
+  | inl t ↦ ap (list_any f) (insert_after x y ys t) ∙ ap (λ b. f y || b) (any_insert f x ys) ∙ swap (f y) (f x) (list_any f ys)
+  | inr t ↦ ap (list_any f) (insert_here x y ys t)
 ]
   where
     swap : (a b c : Bool) → (a || (b || c)) ≡ (b || (a || c))
@@ -95,7 +70,7 @@ any_place f x (y ∷ ys) = elim (cases_Bool (lower y x)) [
 
 pub any-in_order : (f : Item → Bool) (xs : List Item) → list_any f (in_order xs) ≡ list_any f xs
 any-in_order f [] = refl
-any-in_order f (x ∷ xs) = any_place f x (in_order xs) ∙ ap (λ b. f x || b) (any-in_order f xs)
+any-in_order f (x ∷ xs) = any_insert f x (in_order xs) ∙ ap (λ b. f x || b) (any-in_order f xs)
 
 -- ---- one more item, at one place ----
 module _ (x : Item) (q : ℕ × ℕ) where
@@ -110,30 +85,19 @@ module _ (x : Item) (q : ℕ × ℕ) where
   all_above [] h = refl
   all_above (z ∷ zs) h = ap (λ b. (b && writes_at q z) || list_any (λ (y : Item). is_below x.stamp y.stamp && writes_at q y) zs) (h z (inl refl)) ∙ ap (λ b. writes_at q z || b) (all_above zs (λ y i. h y (inr i)))
 
-  pub left_place : (zs : List Item) (row : Option (List ℕ)) → Sorted zs → Free x.stamp zs
-      → left_by row q (place x zs) ≡ step (list_any (λ (z : Item). is_below x.stamp z.stamp && writes_at q z) zs) (left_by row q zs)
-  left_place [] row s f = refl
-  left_place (z ∷ zs) row s f = elim (cases_Bool (lower z x)) [
-    | inl t ↦ ap (left_by row q) (place_after x z zs t) ∙ left_place zs (written row q z.writes) s.1 (λ y i. f y (inr i))
+  pub left_insert : (zs : List Item) (row : Option (List ℕ)) → Sorted zs → Free x.stamp zs
+      → left_by row q (insert_by_stamp x zs) ≡ step (list_any (λ (z : Item). is_below x.stamp z.stamp && writes_at q z) zs) (left_by row q zs)
+  left_insert [] row s f = refl
+  left_insert (z ∷ zs) row s f = elim (cases_Bool (lower z x)) [
+    | inl t ↦ ap (left_by row q) (insert_after x z zs t) ∙ left_insert zs (written row q z.writes) s.1 (λ y i. f y (inr i))
         ∙ ap (λ b. step ((b && writes_at q z) || list_any (λ (y : Item). is_below x.stamp y.stamp && writes_at q y) zs) (left_by (written row q z.writes) q zs)) (sym (lower_one_way z x t))
-    | inr t ↦ (let above : (y : Item) → In y (z ∷ zs) → is_below x.stamp y.stamp ≡ true = λ y i. above_free x.stamp y.stamp (least (z ∷ zs) (t, first zs t s.0) y i) (f y i) in
+    | inr t ↦ (let above : (y : Item) → In y (z ∷ zs) → is_below x.stamp y.stamp ≡ true = λ y i. below_other x.stamp y.stamp (least_at x (z ∷ zs) y (t, least_trans x z zs t s.0) i) (f y i) in
         let same = all_above (z ∷ zs) above in
-        ap (left_by row q) (place_here x z zs t) ∙ elim (cases_Bool (list_any (λ (y : Item). list_any (is_at q) y.writes) (z ∷ zs))) [
+        ap (left_by row q) (insert_here x z zs t) ∙ elim (cases_Bool (list_any (λ (y : Item). list_any (is_at q) y.writes) (z ∷ zs))) [
           | inl u ↦ left_over q (z ∷ zs) (written row q x.writes) row u ∙ ap (λ b. step b (left_by row q (z ∷ zs))) (sym (same ∙ u))
           | inr u ↦ left_not q (z ∷ zs) (written row q x.writes) u ∙ ap (λ r. written r q x.writes) (sym (left_not q (z ∷ zs) row u)) ∙ ap (λ b. step b (left_by row q (z ∷ zs))) (sym (same ∙ u))
         ])
   ]
-    where
-      chain : (a b c : Item) → lower b a ≡ false → lower c b ≡ false → lower c a ≡ false
-      chain a b c p r = grind (arith, nat_tests)
-
-      first : (ys : List Item) → lower z x ≡ false → Least z ys → Least x ys
-      first [] a h = tt
-      first (y ∷ ys) a h = (chain x z y a h.0, first ys a h.1)
-
-      least : (ys : List Item) → Least x ys → (y : Item) → In y ys → lower y x ≡ false
-      least [] h y i = absurd i
-      least (w ∷ ws) h y i = elim i [ inl e ↦ ap (λ (v : Item). is_below v.stamp x.stamp) e ∙ h.0 | inr j ↦ least ws h.1 y j ]
 
   -- and what stands there once its newest writes are made
   pub written_newest : (applied : List Item) (row : Option (List ℕ)) → written row q (newest_writes applied x) ≡ step (is_overwritten applied x.stamp q) row
@@ -164,10 +128,10 @@ rows_more opening rows applied x d h =
     ∙ ap (λ b. step x q b (get rows q)) (sym (any-in_order (λ (y : Item). is_below x.stamp y.stamp && writes_at q y) applied))
     ∙ ap (step x q (list_any (λ (y : Item). is_below x.stamp y.stamp && writes_at q y) (in_order applied))) (ap (λ m. get m q) was ∙ get-rows_after opening (in_order applied) q)
     ∙ sym (get-rows_after opening (in_order (applied ++ x ∷ [])) q ∙ ap (left_by (get opening q) q) (in_order-push applied x free)
-    ∙ left_place x q (in_order applied) (get opening q) (in_order_sorted applied) (λ y i. free y (in_in_order y applied i))))
+    ∙ left_insert x q (in_order applied) (get opening q) (in_order_sorted applied) (λ y i. free y (in_in_order y applied i))))
 
 -- after an entry that added an item or none
 pub replays : (opening rows : Rows) (applied : List Item) (o : Option Item) → (AreDistinct applied → rows ≡ rows_after opening (in_order applied))
-    → AreDistinct (applied ++ option_to_list o) → after_writes rows (made applied (option_to_list o)) ≡ rows_after opening (in_order (applied ++ option_to_list o))
+    → AreDistinct (applied ++ option_to_list o) → after_writes rows (writes_made applied (option_to_list o)) ≡ rows_after opening (in_order (applied ++ option_to_list o))
 replays opening rows applied None h d = h (distinct_front applied [] d) ∙ ap (λ z. rows_after opening (in_order z)) (sym (append-nil applied))
 replays opening rows applied (Some x) h d = rows_more opening rows applied x d h

@@ -1,10 +1,9 @@
 -- The newest stamp of each key, one write further.
-use Rattle.std.proofs.Common.{◌≡◌, ℕ, ◌+◌, ◌<◌, List, [], ◌∷◌, ◌++◌, length, get_or, take, drop, Bool, true, false, cond, not, ◌||◌, Option, Some, refl, sym, ap, ◌∙◌, arith, inl, inr, true≢false}
+use Rattle.std.proofs.Common.{◌≡◌, ℕ, ◌+◌, ◌<◌, List, [], ◌∷◌, ◌++◌, length, get_or, take, drop, Bool, true, false, cond, not, ◌||◌, Option, Some, refl, sym, ap, ◌∙◌, inl, inr, true≢false}
 use Rattle.std.specs.List.{list_any}
 use Rattle.std.specs.FinMap.{get, insert, get-insert}
 use Rattle.std.proofs.lemmas.List.{take_more, take-append-drop, take_at}
 use Rattle.std.proofs.lemmas.List.Elements.{filter-append, filter_agree}
-use Rattle.std.proofs.lemmas.Bool.Decides.{nat_tests}
 use Rattle.std.proofs.lemmas.Bool.{cases_Bool}
 use Rattle.rl_base.specs.declared.stamp.Stamp.{Stamp}
 use Rattle.rl_value.specs.Rows.{Rows}
@@ -12,13 +11,10 @@ use Rattle.rl_value.proofs.PlacesLemmas.{places_total}
 use Rattle.rl_txn.specs.declared.write.Write.{Write}
 use Rattle.rl_txn.specs.Serial.{after_writes}
 use Rattle.rl_txn.proofs.Folds.{after_writes-append}
-use Rattle.rl_cut.specs.Order.{is_below}
+use Rattle.rl_base.proofs.OrderLemmas.{not_below_self}
 use Rattle.rl_replay.specs.Replay.{is_at}
 use Rattle.rl_replay.specs.Newest.{Newest, is_old, fresh, stamped}
 use Rattle.rl_replay.proofs.Places.{at_same, at_is}
-
-pub not_below_self : (s : Stamp) → is_below s s ≡ false
-not_below_self s = grind (arith, nat_tests)
 
 -- where a fresh write is, nothing is newer
 pub fresh_at : (newest : Newest) (s : Stamp) (q : ℕ × ℕ) (ws : List Write) → list_any (is_at q) (fresh newest s ws) ≡ true → is_old (get newest q) s ≡ false
@@ -67,9 +63,9 @@ module _ (first now : Newest) (s : Stamp) (ws : List Write) (i : ℕ) (w : Write
   stamps_more q = ap (λ o. stamped o s q (fresh now s (w ∷ []))) (h q) ∙ ap (stamped (stamped (get first q) s q (fresh first s (take i ws))) s q) same_fresh
       ∙ stamped-append (get first q) s q (fresh first s (take i ws)) (fresh first s (w ∷ [])) ∙ ap (stamped (get first q) s q) (sym (fresh_more first s ws i w l e))
 
--- what was made before some write is a front of all
-pub front_made : (newest : Newest) (s : Stamp) (ws : List Write) (i : ℕ) → fresh newest s (take i ws) ≡ take (length (fresh newest s (take i ws))) (fresh newest s ws)
-front_made newest s ws i =
+-- what was made before some write is a prefix of all
+pub prefix_made : (newest : Newest) (s : Stamp) (ws : List Write) (i : ℕ) → fresh newest s (take i ws) ≡ take (length (fresh newest s (take i ws))) (fresh newest s ws)
+prefix_made newest s ws i =
     let parts : fresh newest s ws ≡ fresh newest s (take i ws) ++ fresh newest s (drop i ws) =
     ap (fresh newest s) (sym (take-append-drop i ws)) ∙ filter-append (λ (v : Write). not (is_old (get newest (v.table, v.key)) s)) (take i ws) (drop i ws) in
     sym (ap (take (length (fresh newest s (take i ws)))) parts ∙ take_at (fresh newest s (take i ws)) (fresh newest s (drop i ws)) (length (fresh newest s (take i ws))) refl)

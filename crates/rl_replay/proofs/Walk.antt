@@ -1,13 +1,13 @@
 -- Going over the entries of a log.
 use Rattle.std.proofs.Common.{◌≡◌, ℕ, zero, suc, ◌+◌, ◌<◌, List, [], ◌∷◌, ◌++◌, length, get_or, take, Some, refl, sym, ap, ◌∙◌, subst, arith, length-append}
 use Rattle.std.specs.Prelude.{slice_get}
-use Rattle.std.proofs.lemmas.List.{take_more, append_assoc, append-nil}
+use Rattle.std.proofs.lemmas.Grind.{flat_map-append}
+use Rattle.std.proofs.lemmas.List.{take_more, append-nil}
 use Rattle.rl_txn.specs.declared.batch.Batch.{Batch}
 use Rattle.rl_replay.specs.Entries.{Entry, entries_of, entries}
 
 pub entries-append : (xs ys : List Batch) → entries (xs ++ ys) ≡ entries xs ++ entries ys
-entries-append [] ys = refl
-entries-append (x ∷ xs) ys = ap (λ z. entries_of x ++ z) (entries-append xs ys) ∙ sym (append_assoc (entries_of x) (entries xs) (entries ys))
+entries-append xs ys = flat_map-append entries_of xs ys
 
 pub length-entries_more : (log : List Batch) (i : ℕ) (b : Batch) → i < length log → b ≡ get_or log i b → length (entries (take (i + 1) log)) ≡ length (entries (take i log)) + length (entries_of b)
 length-entries_more log i b l e =
@@ -24,7 +24,7 @@ back : (xs ys : List Entry) (n : ℕ) → slice_get (xs ++ ys) (length xs + n) �
 back [] ys n = let e : 0 + n ≡ n = omega arith in ap (slice_get ys) e
 back (x ∷ xs) ys n = let e : suc (length xs) + n ≡ suc (length xs + n) = omega arith in ap (slice_get (x ∷ (xs ++ ys))) e ∙ back xs ys n
 
--- an entry by its batch and its place there
+-- an entry by its batch and its index there
 pub entry_here : (log : List Batch) (i : ℕ) (b : Batch) (left : ℕ) → slice_get log i ≡ Some b → left < length (entries_of b)
     → slice_get (entries_of b) left ≡ slice_get (entries log) (left + length (entries (take i log)))
 entry_here [] i b left h l = absurd (let n = h in cc)

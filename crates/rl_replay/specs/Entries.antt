@@ -11,9 +11,11 @@ pub record Entry : Type 0 where
   pub stamp : Stamp
   pub item : Option Item
 
+-- the entry of an item
 abbrev pub item_entry : Item → Entry
 item_entry x = record { stamp = x.stamp; item = Some x }
 
+-- the entry of a mark
 abbrev pub mark_entry : Stamp → Entry
 mark_entry s = record { stamp = s; item = None }
 

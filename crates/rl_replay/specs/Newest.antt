@@ -1,4 +1,5 @@
--- The stamp of the newest write of each key, by which a replica tells whether a write is out of date.
+-- The stamp of the newest write of each key, by which a replica tells whether a write is out of date. No
+-- public contract cites it.
 use Rattle.std.specs.Prelude.{◌≡◌, ℕ, List, Bool, true, false, not, filter, if◌then◌else◌, Contains, Option, Some, None, MatchOption}
 use Rattle.std.specs.List.{list_any}
 use Rattle.std.specs.FinMap as finite
@@ -6,7 +7,7 @@ use Rattle.rl_base.specs.declared.stamp.Stamp.{Stamp}
 use Rattle.rl_value.specs.Rows.{place_cmp}
 use Rattle.rl_txn.specs.declared.item.Item.{Item}
 use Rattle.rl_txn.specs.declared.write.Write.{Write}
-use Rattle.rl_cut.specs.Order.{is_below}
+use Rattle.rl_base.specs.Order.{is_below}
 use Rattle.rl_replay.specs.Replay.{is_at, writes_at}
 
 -- a stamp for each key that was written
@@ -34,8 +35,10 @@ pub record IsNewestOf (applied : List Item) (q : ℕ × ℕ) (s : Stamp) : Type 
   pub has : item.stamp ≡ s
   pub greatest : (x : Item) → Contains applied x → writes_at q x ≡ true → is_below s x.stamp ≡ false
 
+-- the newest stamp of a place, if it has one
 abbrev pub IsNewest : List Item → ℕ × ℕ → Option Stamp → Type 0
 IsNewest applied q newest = MatchOption newest ((x : Item) → Contains applied x → writes_at q x ≡ false) (IsNewestOf applied q)
 
+-- the newest stamp of each place
 abbrev pub AreNewest : List Item → Newest → Type 0
 AreNewest applied newest = (q : ℕ × ℕ) → IsNewest applied q (finite.get newest q)

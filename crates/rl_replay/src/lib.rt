@@ -1,7 +1,7 @@
 //! A node's replica, which replays the logs of all streams up to the watermark.
 #![tactic(auto)]
 
-pub mod cursor;
-pub mod newest;
+mod cursor;
+mod newest;
 pub mod played;
 pub mod replica;

@@ -6,8 +6,7 @@ ghost use Rattle.rl_txn.specs.Serial.{after_writes};
 ghost use Rattle.rl_replay.specs.Newest.{is_old, fresh, stamped};
 
 use rl_base::memory::Memory;
-use rl_base::stamp::Stamp;
-use rl_cut::order::is_below;
+use rl_base::stamp::{Stamp, is_below};
 use rl_txn::item::{Item, apply_write};
 use rl_txn::write::Write;
 use rl_value::map::{Map, Places};
@@ -15,12 +14,12 @@ use rl_value::map::{Map, Places};
 /// The stamp of the newest write of each key.
 pub type Newest = Places<Stamp>;
 
-/// Makes each write of an item, unless its key has a newer one. After `Memory` a front of these writes
-/// is made.
+/// Makes each write of an item, unless its key has a newer one. After `Memory` a prefix of these
+/// writes is made.
 pub fn apply_newest(map: &mut Map, newest: &mut Newest, item: &Item) -> Result<(), Memory>
     ensures rows { OnOk result (map.new ≡ after_writes map.old (fresh newest.old item.now.stamp item.now.writes)) }
     ensures stamps { OnOk result ((q : ℕ × ℕ) → finite.get newest.new q ≡ stamped (finite.get newest.old q) item.now.stamp q (fresh newest.old item.now.stamp item.now.writes)) }
-    ensures front { OnErr result ((n : ℕ) × (map.new ≡ after_writes map.old (take n (fresh newest.old item.now.stamp item.now.writes)))) }
+    ensures prefix { OnErr result ((n : ℕ) × (map.new ≡ after_writes map.old (take n (fresh newest.old item.now.stamp item.now.writes)))) }
 {
     for write in item.writes.as_slice() {
         apply_one(map, newest, item.stamp, write)?;

@@ -7,7 +7,7 @@ use rl_base::stamp::Stamp;
 pub enum Played {
     /// It is an item, and was applied.
     Applied { stamp: Stamp },
-    /// It is a mark, or an item that never counts, and was passed over.
+    /// It is a mark, or an item that never counts, and was skipped.
     Passed { stamp: Stamp },
     /// It is an item above the watermark's seq or of a later epoch, and still to come.
     Above { next: Stamp, watermark: u64 },

@@ -4,7 +4,7 @@ ghost use Rattle.std.specs.Prelude.{◌≡◌, ℕ, ◌+◌, ◌-◌, ◌^◌, �
 ghost use Rattle.std.specs.Option.{option_map};
 ghost use Rattle.rl_value.specs.Rows.{Rows};
 ghost use Rattle.rl_txn.specs.Serial.{after_writes};
-ghost use Rattle.rl_replay.specs.Replay.{newest_writes, HasStamp, next_entry, item_answer, answer, after_answer, IsReplay, HasFailed, IsSameSet, AreTold};
+ghost use Rattle.rl_replay.specs.Replay.{newest_writes, HasStamp, next_entry, item_answer, play_answer, after_answer, IsReplay, HasFailed, HaveSameStamps, IsSameSet, StampsIdentify};
 ghost use Rattle.rl_replay.specs.Entries.{entries_of, item_entry, mark_entry};
 
 use crate::cursor::find;
@@ -86,17 +86,15 @@ impl Replica {
         ensures { result ≡ option_map (λ e. e.stamp.epoch) (next_entry self.now stream (take known log.now)) }
     {
         let known = &log.as_slice()[..known as usize];
-        match find(known, self.played[stream as usize - 1]) {
-            Some((batch, place)) => Some(epoch_at(batch, place)),
-            None => None,
-        }
+        let (batch, index) = find(known, self.played[stream as usize - 1])?;
+        Some(epoch_at(batch, index))
     }
 
     /// Plays the next entry of a stream, in the first `known` batches of its log, with the bound of the
     /// entry's epoch and the seq of the watermark.
     ///
-    /// Want of memory leaves the applied items and the cursors as they were. A front of the writes of an item
-    /// that was to be applied may stand in the rows then; every later `play` answers `Memory` and changes nothing.
+    /// `Memory` leaves the applied items and the cursors as they were. A prefix of the writes of an item that
+    /// was to be applied may stand in the rows then; every later `play` answers `Memory` and changes nothing.
     pub fn play(
         &mut self,
         alloc: Global,
@@ -109,10 +107,10 @@ impl Replica {
         requires first_stream { 1 ≤ stream }
         requires last_stream { stream ≤ length self.old.played }
         requires known { known ≤ length log.now }
-        ensures answer { IfOk result (λ p. p ≡ answer (next_entry self.old stream (take known log.now)) bound watermark) }
+        ensures answer { IfOk result (λ p. p ≡ play_answer (next_entry self.old stream (take known log.now)) bound watermark) }
         ensures state { IfOk result (λ p. self.new ≡ after_answer self.old stream (next_entry self.old stream (take known log.now)) p) }
         ensures replay { (opening : Rows) → IsReplay opening self.old → OnOk result (IsReplay opening self.new) }
-        ensures err { let next = next_entry self.old stream (take known log.now) in OnErr result (HasFailed (answer next bound watermark) next self.old self.new) }
+        ensures err { let next = next_entry self.old stream (take known log.now) in OnErr result (HasFailed (play_answer next bound watermark) next self.old self.new) }
         ensures stays_failed { self.old.failed ≡ true → IsErr result }
         ensures failed_is_kept { self.old.failed ≡ true → self.new ≡ self.old }
     {
@@ -121,7 +119,7 @@ impl Replica {
         }
         let known = &log.as_slice()[..known as usize];
         match find(known, self.played[stream as usize - 1]) {
-            Some((batch, place)) => self.play_at(alloc, stream, batch, place, bound, watermark),
+            Some((batch, index)) => self.play_at(alloc, stream, batch, index, bound, watermark),
             None => Ok(Played::Empty),
         }
     }
@@ -132,7 +130,7 @@ impl Replica {
         alloc: Global,
         stream: u32,
         batch: &Batch,
-        place: usize,
+        index: usize,
         bound: Bound,
         watermark: u64,
     ) -> Result<Played, Memory>
@@ -140,17 +138,17 @@ impl Replica {
         requires last_stream { stream ≤ length self.old.played }
         requires room { slice_index self.old.played (stream - 1) + 1 < 2 ^ 128 }
         requires working { self.old.failed ≡ false }
-        requires place { place < length (entries_of batch.now) }
-        ensures answer { IfOk result (λ p. p ≡ answer (slice_get (entries_of batch.now) place) bound watermark) }
-        ensures state { IfOk result (λ p. self.new ≡ after_answer self.old stream (slice_get (entries_of batch.now) place) p) }
-        ensures err { let next = slice_get (entries_of batch.now) place in OnErr result (HasFailed (answer next bound watermark) next self.old self.new) }
+        requires index { index < length (entries_of batch.now) }
+        ensures answer { IfOk result (λ p. p ≡ play_answer (slice_get (entries_of batch.now) index) bound watermark) }
+        ensures state { IfOk result (λ p. self.new ≡ after_answer self.old stream (slice_get (entries_of batch.now) index) p) }
+        ensures err { let next = slice_get (entries_of batch.now) index in OnErr result (HasFailed (play_answer next bound watermark) next self.old self.new) }
     {
         match batch {
             Batch::Items(items) => {
-                self.play_item(alloc, stream, items.get(place), bound, watermark)
+                self.play_item(alloc, stream, items.get(index), bound, watermark)
             }
-            Batch::Idle(stamp) => Ok(self.pass(stream, *stamp)),
-            Batch::Opened(stamp) => Ok(self.pass(stream, *stamp)),
+            Batch::Idle(stamp) => Ok(self.skip(stream, *stamp)),
+            Batch::Opened(stamp) => Ok(self.skip(stream, *stamp)),
         }
     }
 
@@ -172,7 +170,7 @@ impl Replica {
     {
         match answer_item(item.stamp, bound, watermark) {
             Played::Applied { stamp } => self.apply(alloc, stream, item),
-            Played::Passed { stamp } => Ok(self.pass(stream, stamp)),
+            Played::Passed { stamp } => Ok(self.skip(stream, stamp)),
             Played::Above { next, watermark } => Ok(Played::Above { next, watermark }),
             Played::Empty => Ok(Played::Empty),
         }
@@ -210,8 +208,8 @@ impl Replica {
         Ok(())
     }
 
-    /// Passes an entry over.
-    fn pass(&mut self, stream: u32, stamp: Stamp) -> Played
+    /// Skips an entry.
+    fn skip(&mut self, stream: u32, stamp: Stamp) -> Played
         requires first_stream { 1 ≤ stream }
         requires last_stream { stream ≤ length self.old.played }
         requires room { slice_index self.old.played (stream - 1) + 1 < 2 ^ 128 }
@@ -231,11 +229,12 @@ impl Replica {
         self.played[stream as usize - 1] += 1;
     }
 
-    /// Whether every item of a history was applied, and no other.
+    /// Whether every item of a history was applied, and no other, told by their stamps.
     pub fn at_watermark(&self, history: &Items) -> bool
-        ensures { AreTold self.now.applied history.now → (IsTrue result ↔ IsSameSet history.now self.now.applied) }
+        ensures stamps { IsTrue result ↔ HaveSameStamps self.now.applied history.now }
+        ensures items { StampsIdentify self.now.applied history.now → (IsTrue result ↔ IsSameSet history.now self.now.applied) }
     {
-        same_stamps(&self.applied, history.as_slice())
+        have_same_stamps(&self.applied, history.as_slice())
     }
 }
 
@@ -254,13 +253,11 @@ fn answer_item(stamp: Stamp, bound: Bound, watermark: u64) -> Played
     }
 }
 
-/// Whether the applied items are those of a history, told by their stamps.
-fn same_stamps(applied: &[Item], history: &[Item]) -> bool
-    ensures { AreTold applied.now history.now → (IsTrue result ↔ IsSameSet history.now applied.now) }
+/// Whether each item of one list has the stamp of an item of the other, both ways.
+fn have_same_stamps(items: &[Item], others: &[Item]) -> bool
+    ensures { IsTrue result ↔ HaveSameStamps items.now others.now }
 {
-    let every = has_stamps(applied, history);
-    let no_other = has_stamps(history, applied);
-    every && no_other
+    has_stamps(items, others) && has_stamps(others, items)
 }
 
 /// Whether each of some other items has the stamp of an item.
@@ -283,137 +280,13 @@ fn has_stamp(items: &[Item], stamp: Stamp) -> bool
 }
 
 /// The epoch of an entry of a batch.
-fn epoch_at(batch: &Batch, place: usize) -> u32
-    requires { place < length (entries_of batch.now) }
-    ensures { IsSomeAnd (slice_get (entries_of batch.now) place) (λ e. result ≡ e.stamp.epoch) }
+fn epoch_at(batch: &Batch, index: usize) -> u32
+    requires { index < length (entries_of batch.now) }
+    ensures { IsSomeAnd (slice_get (entries_of batch.now) index) (λ e. result ≡ e.stamp.epoch) }
 {
     match batch {
-        Batch::Items(items) => items.get(place).stamp.epoch,
+        Batch::Items(items) => items.get(index).stamp.epoch,
         Batch::Idle(stamp) => stamp.epoch,
         Batch::Opened(stamp) => stamp.epoch,
-    }
-}
-
-#[cfg(test)]
-mod tests {
-    use super::*;
-    use rl_base::list::Seq;
-    use rl_txn::write::{End, Reply, Write};
-    use rl_value::row::Row;
-    use std::test::Fail;
-
-    fn item(alloc: Global, seq: u64, value: u64) -> Result<Item, Memory> {
-        let mut writes = Seq::new(alloc);
-        writes.push(Write {
-            table: 0,
-            key: 0,
-            row: Some(Row::from_slice(&[value])),
-        })?;
-        Ok(Item {
-            stamp: Stamp { epoch: 1, seq },
-            worker: 1,
-            index: 1,
-            reply: Reply {
-                outs: Seq::new(alloc),
-                end: End::Done,
-            },
-            writes,
-        })
-    }
-
-    fn log_of(alloc: Global, items: Items) -> Result<Batches, Memory>
-        ensures { IfOk result (λ log. length log ≡ 1) }
-    {
-        let mut log = Batches::new(alloc);
-        log.push(Batch::Items(items))?;
-        Ok(log)
-    }
-
-    fn only(alloc: Global, seq: u64, value: u64) -> Result<Items, Memory> {
-        let mut items = Items::new(alloc);
-        items.push(item(alloc, seq, value)?)?;
-        Ok(items)
-    }
-
-    fn first_log(alloc: Global) -> Result<Batches, Memory>
-        ensures { IfOk result (λ log. length log ≡ 1) }
-    {
-        let mut items = only(alloc, 2, 5)?;
-        items.push(item(alloc, 4, 7)?)?;
-        log_of(alloc, items)
-    }
-
-    fn second_log(alloc: Global) -> Result<Batches, Memory>
-        ensures { IfOk result (λ log. length log ≡ 1) }
-    {
-        log_of(alloc, only(alloc, 3, 6)?)
-    }
-
-    fn two_streams(alloc: Global) -> Result<Replica, Memory>
-        ensures { IfOk result (λ replica. length replica.played ≡ 2) }
-    {
-        Replica::new(alloc, &Schema::new(alloc), &Map::new(alloc), 2)
-    }
-
-    fn play(
-        replica: &mut Replica,
-        alloc: Global,
-        stream: u32,
-        log: &Batches,
-    ) -> Result<Played, Memory>
-        requires first_stream { 1 ≤ stream }
-        requires last_stream { stream ≤ length replica.old.played }
-        requires one { length log.now ≡ 1 }
-        ensures { IfOk result (λ _. length replica.new.played ≡ length replica.old.played) }
-    {
-        replica.play(alloc, stream, log, 1, Bound::Rising { seq: 3 }, 3)
-    }
-
-    fn value(replica: &Replica) -> u64 {
-        match replica.map().get(0, 0) {
-            Some(row) => row.column_or_zero(0),
-            None => 0,
-        }
-    }
-
-    #[test]
-    fn newer_stream_first(rt: HostRuntime) -> Result<(), Fail> {
-        let alloc = rt.alloc();
-        let mut replica = two_streams(alloc)?;
-        let first = first_log(alloc)?;
-        let second = second_log(alloc)?;
-        let played = play(&mut replica, alloc, 2, &second)?;
-        assert_eq!(rt;
-            played,
-            Played::Applied {
-                stamp: Stamp { epoch: 1, seq: 3 }
-            }
-        );
-        let played = play(&mut replica, alloc, 1, &first)?;
-        assert_eq!(rt;
-            played,
-            Played::Applied {
-                stamp: Stamp { epoch: 1, seq: 2 }
-            }
-        );
-        assert_eq!(rt; value(&replica), 6);
-        let played = play(&mut replica, alloc, 1, &first)?;
-        let next = Stamp { epoch: 1, seq: 4 };
-        assert_eq!(rt; played, Played::Above { next, watermark: 3 });
-        assert_eq!(rt; play(&mut replica, alloc, 2, &second)?, Played::Empty);
-        Ok(())
-    }
-
-    #[test]
-    fn told_by_stamps(rt: HostRuntime) -> Result<(), Fail> {
-        let alloc = rt.alloc();
-        let mut replica = two_streams(alloc)?;
-        let second = second_log(alloc)?;
-        assert_eq!(rt; replica.next_epoch_of(2, &second, 1), Some(1));
-        play(&mut replica, alloc, 2, &second)?;
-        assert_eq!(rt; replica.next_epoch_of(2, &second, 1), None);
-        assert!(rt; replica.at_watermark(&only(alloc, 3, 6)?));
-        assert!(rt; !replica.at_watermark(&only(alloc, 2, 5)?));
-        Ok(())
     }
 }

@@ -3,7 +3,7 @@ use Rattle.std.specs.Result.{OnErr}
 use Rattle.rl_txn.specs.declared.write.Write.{Write}
 use Rattle.rl_txn.specs.Serial.{after_writes}
 use Rattle.rl_replay.specs.Newest.{fresh}
-use Rattle.rl_replay.proofs.Stamped.{rows_more, stamps_more, front_made}
+use Rattle.rl_replay.proofs.Stamped.{rows_more, stamps_more, prefix_made}
 use Rattle.rl_replay.proofs.newest.apply_newest.Goals as goal
 
 pub loop-write-preserved : goal.loop-write-preserved
@@ -18,13 +18,13 @@ loop-write-preserved c =
       stamps = λ q. c.in_ok-apply_one.ensures.stamps q ∙ stamps_more c.args.newest.now c.loop-write.newest s ws i w c.loop-write-test.true c.write-item.is c.loop-write.invariant.stamps q;
     }
 
-pub returns-in_err-apply_one-clause-front : goal.returns-in_err-apply_one-clause-front
-returns-in_err-apply_one-clause-front c =
+pub returns-in_err-apply_one-clause-prefix : goal.returns-in_err-apply_one-clause-prefix
+returns-in_err-apply_one-clause-prefix c =
     let ws : List Write = c.as_slice-write-items.result.now in
     let i = c.loop-write.write-index in
     let s = c.args.item.now.stamp in
     let made = fresh c.args.newest.now s (take i ws) in
-    let is = c.in_err-apply_one.ensures.unchanged ∙ c.loop-write.invariant.rows ∙ ap (after_writes c.args.map.now) (front_made c.args.newest.now s ws i)
+    let is = c.in_err-apply_one.ensures.unchanged ∙ c.loop-write.invariant.rows ∙ ap (after_writes c.args.map.now) (prefix_made c.args.newest.now s ws i)
     ∙ ap (λ v. after_writes c.args.map.now (take (length made) (fresh c.args.newest.now s v))) c.as_slice-write-items.ensures in
     elim c.from_residual.result as (λ r. OnErr r ((n : ℕ) × (c.apply_one.new.map ≡ after_writes c.args.map.now (take n (fresh c.args.newest.now s c.args.item.now.writes))))) [
       | Ok _ ↦ tt

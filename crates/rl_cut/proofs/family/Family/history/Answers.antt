@@ -3,8 +3,9 @@ use Rattle.std.specs.Ordering.{is_lt, ordering_then, nat_cmp}
 use Rattle.std.proofs.lemmas.Bool.Decides.{nat_tests}
 use Rattle.std.proofs.lemmas.List.Sorted.{answers_always}
 use Rattle.rl_txn.specs.declared.item.Item.{Item}
-use Rattle.rl_cut.specs.Order.{in_order}
-use Rattle.rl_cut.proofs.Sorting.{lower, sorts}
+use Rattle.rl_families.specs.Order.{in_order}
+use Rattle.rl_families.proofs.Sorting.{lower}
+use Rattle.rl_cut.proofs.StableSort.{sorts}
 use Rattle.rl_cut.proofs.family.Family.history.Goals as goal
 
 by_key : Item → Item → Bool

@@ -18,7 +18,7 @@ returns-in-Err-clause-err c =
       failed = refl;
       applied = c.truncate.ensures.items ∙ ap (take n) c.in_ok-push.ensures.items ∙ take_at old (c.in_ok-copy.field-0 ∷ []) n (omega (arith, c.self.inside.applied.ok.0, c.len-kept.ensures));
       played = refl;
-      front = (c.in-Err.ensures.front.0, c.in-Err.ensures.front.1 ∙ ap (λ ws. after_writes c.self.inside.map (take c.in-Err.ensures.front.0 ws)) (fresh_is old c.self.inside.newest c.args.item.now newest));
+      prefix = (c.in-Err.ensures.prefix.0, c.in-Err.ensures.prefix.1 ∙ ap (λ ws. after_writes c.self.inside.map (take c.in-Err.ensures.prefix.0 ws)) (fresh_is old c.self.inside.newest c.args.item.now newest));
     })
 
 pub invariant_of-self-2 : goal.invariant_of-self-2

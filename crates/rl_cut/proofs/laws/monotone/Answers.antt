@@ -1,5 +1,0 @@
-use Rattle.rl_cut.proofs.Nesting.{history_nests, history_cut}
-use Rattle.rl_cut.proofs.laws.monotone.Goals as goal
-
-pub returns : goal.returns
-returns c = record { nest = history_nests; cut = history_cut }

@@ -1,0 +1,14 @@
+-- Members, and Sorting: what stands in a list, and in a list put in order by stamp.
+-- Logs, Rising: along a log whose stamps rise, what stands behind a part is above its last stamps.
+-- Nesting: so a longer log adds nothing below the cut of a shorter one, and the histories nest.
+-- Strict: items with different stamps have one order; two such lists with the same members are equal.
+-- Streams, Extending: a log told by leaders is, epoch by epoch, a part of what each leader decided; so a
+-- history has the members of an opening list and of what its epoch decided first, and no others.
+pub mod Members
+pub mod Sorting
+pub mod Logs
+pub mod Rising
+pub mod Nesting
+pub mod Strict
+pub mod Streams
+pub mod Extending
