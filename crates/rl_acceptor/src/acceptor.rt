@@ -1,9 +1,10 @@
 //! An acceptor.
 
-ghost use Rattle.std.specs.Prelude.{◌≡◌, ◌⊎◌, ◌-◌, ◌<◌, ◌≤◌, length, Some, None, OnOk, OnErr, IfOk, IfErr, IfSome};
-ghost use Rattle.rl_paxos.specs.Acceptors.{new_acceptor, ballot_of, log_of, HasStream, refuses, refuses_accept, prepared, synced, accepted};
+ghost use Rattle.std.specs.Prelude.{◌≡◌, ◌⊎◌, ◌<◌, ◌≤◌, length, Some, None, OnOk, OnErr, IfOk, IfErr};
+ghost use Rattle.rl_paxos.specs.Acceptors.{new_acceptor, kept_ballot, kept_log, HasStream, refuses, refuses_accept, prepared, synced, accepted};
 
 use crate::kept::Kept;
+use rl_base::limit::SLOTS;
 use rl_base::list::{Bytes, Log};
 use rl_base::memory::Memory;
 use rl_paxos::refused::Refused;
@@ -60,9 +61,10 @@ impl Acceptor {
     /// `Promised` exactly where it has promised a later epoch; unchanged then.
     pub fn sync(&mut self, epoch: u32, stream: u32, log: Log) -> Result<u32, Refused>
         requires stream { HasStream self.old stream }
-        requires short { length log ≤ 4096 }
+        requires short { length log ≤ SLOTS }
         ensures ok { OnOk result (self.new ≡ synced self.old epoch stream log) }
-        ensures len { IfOk result (λ len. len ≡ length (log_of self.new stream)) }
+        ensures len { IfOk result (λ len. len ≡ length (kept_log self.new stream)) }
+        ensures short { IfOk result (λ len. len ≤ SLOTS) }
         ensures allowed { OnOk result (refuses self.old epoch ≡ None) }
         ensures refused { IfErr result (λ refusal. refuses self.old epoch ≡ Some refusal) }
         ensures err { OnErr result (self.new ≡ self.old) }
@@ -87,11 +89,13 @@ impl Acceptor {
         batch: Bytes,
     ) -> Result<u32, Refused>
         requires stream { HasStream self.old stream }
-        requires slot { slot < 4096 }
+        requires slot { slot < SLOTS }
         ensures ok { OnOk result (self.new ≡ accepted self.old stream slot batch) }
-        ensures len { IfOk result (λ len. len ≡ length (log_of self.new stream)) }
+        ensures len { IfOk result (λ len. len ≡ length (kept_log self.new stream)) }
+        ensures short { IfOk result (λ len. len ≤ SLOTS) }
         ensures allowed { OnOk result (refuses_accept self.old epoch stream slot ≡ None) }
-        ensures refused { IfErr result (λ refusal. (refuses_accept self.old epoch stream slot ≡ Some refusal) ⊎ ((refusal ≡ Refused.Memory) × (refuses_accept self.old epoch stream slot ≡ None))) }
+        ensures refused { IfErr result (λ refusal. (refuses_accept self.old epoch stream slot ≡ Some refusal)
+            ⊎ ((refusal ≡ Refused.Memory) × (refuses_accept self.old epoch stream slot ≡ None))) }
         ensures err { OnErr result (self.new ≡ self.old) }
     {
         let promised = self.promised;
@@ -120,7 +124,7 @@ impl Acceptor {
     /// The ballot of a stream.
     pub fn ballot(&self, s: u32) -> u32
         requires { HasStream self.now s }
-        ensures { result ≡ ballot_of self.now s }
+        ensures { result ≡ kept_ballot self.now s }
     {
         self.streams[s as usize - 1].ballot()
     }
@@ -128,58 +132,9 @@ impl Acceptor {
     /// The log of a stream.
     pub fn log(&self, s: u32) -> &Log
         requires { HasStream self.now s }
-        ensures kept { result.now ≡ log_of self.now s }
-        ensures short { length result.now ≤ 4096 }
+        ensures kept { result.now ≡ kept_log self.now s }
+        ensures short { length result.now ≤ SLOTS }
     {
         self.streams[s as usize - 1].log()
-    }
-}
-
-#[cfg(test)]
-mod tests {
-    use super::*;
-    use std::test::Fail;
-
-    fn batch(alloc: Global, byte: u8) -> Result<Bytes, Memory> {
-        Bytes::from_slice(alloc, &[byte])
-    }
-
-    fn log_of_one(alloc: Global, byte: u8) -> Result<Log, Memory>
-        ensures { IfOk result (λ log. length log ≡ 1) }
-    {
-        let mut log = Log::new(alloc);
-        log.push(batch(alloc, byte)?)?;
-        Ok(log)
-    }
-
-    #[test]
-    fn one_stream(rt: HostRuntime) -> Result<(), Fail> {
-        let alloc = rt.alloc();
-        let mut a = Acceptor::new(alloc, 1)?;
-        assert_eq!(rt; a.prepare(5), Ok(()));
-        assert_eq!(rt;
-            a.accept(4, 1, 0, batch(alloc, 7)?),
-            Err(Refused::Promised { promised: 5 })
-        );
-        assert_eq!(rt;
-            a.accept(5, 1, 0, batch(alloc, 7)?),
-            Err(Refused::OtherBallot { ballot: 0 })
-        );
-        assert_eq!(rt; a.sync(5, 1, log_of_one(alloc, 1)?), Ok(1));
-        assert_eq!(rt;
-            a.accept(5, 1, 2, batch(alloc, 7)?),
-            Err(Refused::OutOfOrder { len: 1 })
-        );
-        assert_eq!(rt; a.accept(5, 1, 1, batch(alloc, 7)?), Ok(2));
-        assert_eq!(rt; a.accept(5, 1, 1, batch(alloc, 7)?), Ok(2));
-        assert_eq!(rt; a.prepare(4), Err(Refused::Promised { promised: 5 }));
-        assert_eq!(rt; a.sync(5, 1, log_of_one(alloc, 9)?), Ok(2));
-        assert_eq!(rt; a.promised(), 5);
-        assert_eq!(rt; a.ballot(1), 5);
-        let log = a.log(1);
-        assert_eq!(rt; log.len(), 2);
-        assert_eq!(rt; log.get(0).as_slice(), [1].as_slice());
-        assert_eq!(rt; log.get(1).as_slice(), [7].as_slice());
-        Ok(())
     }
 }

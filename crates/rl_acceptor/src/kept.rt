@@ -1,14 +1,15 @@
 //! What an acceptor keeps of one stream.
 
-ghost use Rattle.std.specs.Prelude.{◌≡◌, ◌+◌, ◌<◌, ◌≤◌, [], ◌∷◌, ◌++◌, length, OnErr, IfOk, if◌then◌else◌, ◌==◌};
+ghost use Rattle.std.specs.Prelude.{◌≡◌, ◌<◌, ◌≤◌, [], ◌∷◌, ◌++◌, length, OnOk, OnErr, IfOk, if◌then◌else◌, ◌==◌};
 ghost use Rattle.rl_paxos.specs.Acceptors.{nothing_kept};
 
+use rl_base::limit::SLOTS;
 use rl_base::list::{Bytes, Log};
 use rl_base::memory::Memory;
 use std::alloc::Global;
 use std::marker::Model;
 
-/// A log of at most 4,096 batches, and the ballot at which it was adopted.
+/// A log of at most `SLOTS` batches, and the ballot at which it was adopted.
 #[derive(Debug, Drop)]
 pub struct Kept {
     ballot: u32,
@@ -17,13 +18,14 @@ pub struct Kept {
 
 impl Model for Kept {
     ghost use Rattle.std.specs.Prelude.{◌≤◌, length};
+    ghost use Rattle.rl_base.specs.declared.limit.TheConstants.{SLOTS};
     ghost use Rattle.rl_paxos.specs.Acceptors.{Kept};
 
     ghost Value = { Kept };
 
     ghost view = { λ k. record { ballot = k.ballot; log = k.log } };
 
-    ghost invariant = { λ k. length k.log ≤ 4096 };
+    ghost invariant = { λ k. length k.log ≤ SLOTS };
 }
 
 impl Kept {
@@ -39,7 +41,7 @@ impl Kept {
 
     /// A log that is adopted at a ballot.
     pub fn adopted(ballot: u32, log: Log) -> Kept
-        requires { length log ≤ 4096 }
+        requires { length log ≤ SLOTS }
         ensures { result ≡ record { ballot = ballot; log = log } }
     {
         Kept { ballot, log }
@@ -55,7 +57,7 @@ impl Kept {
     /// The log.
     pub fn log(&self) -> &Log
         ensures kept { result.now ≡ self.now.log }
-        ensures short { length result.now ≤ 4096 }
+        ensures short { length result.now ≤ SLOTS }
     {
         &self.log
     }
@@ -63,17 +65,19 @@ impl Kept {
     /// How many batches the log has.
     pub fn len(&self) -> u32
         ensures counted { result ≡ length self.now.log }
-        ensures short { result ≤ 4096 }
+        ensures short { result ≤ SLOTS }
     {
         self.log.len() as u32
     }
 
     /// Appends a batch for the next slot; one for an earlier slot changes nothing. After `Memory` it is unchanged.
     pub fn take(&mut self, slot: u32, batch: Bytes) -> Result<u32, Memory>
-        requires room { slot < 4096 }
+        requires room { slot < SLOTS }
         requires next { slot ≤ length self.old.log }
-        ensures ok { IfOk result (λ len. self.new ≡ (if slot == length self.old.log then record self.old { log = self.old.log ++ batch ∷ [] } else self.old)) }
+        ensures ok { OnOk result (self.new ≡ (if slot == length self.old.log
+            then record self.old { log = self.old.log ++ batch ∷ [] } else self.old)) }
         ensures len { IfOk result (λ len. len ≡ length self.new.log) }
+        ensures short { IfOk result (λ len. len ≤ SLOTS) }
         ensures err { OnErr result (self.new ≡ self.old) }
     {
         if slot == self.len() {

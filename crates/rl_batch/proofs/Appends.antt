@@ -4,7 +4,7 @@ use Rattle.byteorder.specs.Endian.{big_bytes}
 use Rattle.rl_txn.specs.declared.write.Write.{Write}
 use Rattle.rl_txn.specs.declared.item.Item.{Item}
 use Rattle.rl_fields.proofs.Appends.{appended}
-use Rattle.rl_batch.specs.Spelling.{numbers_bytes, writes_bytes, end_number, item_bytes}
+use Rattle.rl_batch.specs.Encoding.{numbers_bytes, writes_bytes, end_number, item_bytes}
 
 pub appended_item : (x : Item) (o0 o1 o2 o3 o4 o5 : List ℕ) (end : ℕ) (outs : List ℕ) (writes : List Write) → end ≡ end_number x.reply.end → outs ≡ x.reply.outs → writes ≡ x.writes
     → o1 ≡ o0 ++ big_bytes 8 x.stamp.seq → o2 ≡ o1 ++ big_bytes 4 x.index → o3 ≡ o2 ++ big_bytes 1 end → o4 ≡ o3 ++ numbers_bytes outs → o5 ≡ o4 ++ writes_bytes writes → o5 ≡ o0 ++ item_bytes x

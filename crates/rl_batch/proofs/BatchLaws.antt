@@ -1,10 +1,11 @@
--- Batches: what is read is spelled so and in range, and what is spelled so is read again.
+-- Batches: what is read is encoded so and in range, and what is encoded so is read again.
 use Rattle.std.proofs.Common.{◌≡◌, ℕ, ◌-◌, ◌^◌, ◌<◌, true, cond, List, [], ◌∷◌, ◌++◌, Result, Ok, Err, refl, sym, ap, subst, ◌∙◌, arith, inl, inr}
 use Rattle.std.specs.Prelude.{IfOk, OnOk, ◌==◌}
 use Rattle.std.proofs.lemmas.Bool.{eqb-true}
 use Rattle.std.proofs.lemmas.List.{append-nil}
 use Rattle.byteorder.specs.Endian.{big_bytes}
 use Rattle.rl_base.specs.Numbers.{IsBytes}
+use Rattle.rl_base.specs.Results.{◌>>=◌}
 use Rattle.rl_base.specs.declared.memory.Memory.{Memory}
 use Rattle.rl_base.specs.declared.flaw.Flaw.TheVariants.{Kind}
 use Rattle.rl_base.specs.declared.stamp.Stamp.{Stamp}
@@ -12,14 +13,13 @@ use Rattle.rl_txn.specs.declared.item.Item.{Item}
 use Rattle.rl_txn.specs.declared.batch.Batch.{Batch}
 use Rattle.rl_txn.specs.declared.batch.Batch.TheVariants.{Items, Idle, Opened}
 use Rattle.rl_fields.specs.declared.fault.Fault.{Fault}
-use Rattle.rl_fields.specs.Faults.{fault_at, placed}
-use Rattle.rl_fields.specs.Fields.{◌>>=◌, within, alone}
-use Rattle.rl_fields.proofs.FieldLaws.{IsBytes-rest, bind_ok, ok_is, Takes, Takes-then, within_takes, within_again, alone_takes, chosen, placed_ok}
-use Rattle.rl_batch.specs.declared.batch_error.BatchError.{BatchError}
-use Rattle.rl_batch.specs.Answers.{Answers}
-use Rattle.rl_batch.specs.Spelling.{items_bytes, mark_bytes, batch_bytes}
+use Rattle.rl_fields.specs.Faults.{fault_at, with_offset}
+use Rattle.rl_fields.specs.Fields.{within, alone, whole}
+use Rattle.rl_fields.proofs.FieldLaws.{IsBytes-rest, bind_ok, ok_is, Takes, Takes-then, within_takes, within_again, chosen}
+use Rattle.rl_fields.proofs.DecodeLaws.{IsWholeReader}
+use Rattle.rl_batch.specs.Encoding.{items_bytes, mark_bytes, batch_bytes}
 use Rattle.rl_batch.specs.Ranges.{MarkInRange, BatchInRange, HasWords}
-use Rattle.rl_batch.specs.Reading.{items, mark, batch, whole, read_batch}
+use Rattle.rl_batch.specs.Reading.{items, mark, batch, read_batch}
 use Rattle.rl_batch.proofs.ItemLaws.{items_takes, items_again}
 
 -- ---- marks
@@ -51,17 +51,17 @@ kind_takes : (kind k : ℕ) (rest text after : List ℕ) → (kind == k) ≡ tru
 kind_takes kind k rest text after same t = record { parts = ap (λ (bytes : List ℕ). kind ∷ bytes) t.parts ∙ ap (λ (n : ℕ). n ∷ (text ++ after)) (eqb-true kind k same); rest_fits = t.rest_fits }
 
 -- one kind of batch
-made_takes : {A : Type 0} (make : A → Batch) (spell : A → List ℕ) (Fits : A → Type 0) (k kind : ℕ) (rest : List ℕ) (read : Result (A × List ℕ) Fault) (x : Batch × List ℕ)
-    → ((y : A) → batch_bytes (make y) ≡ k ∷ spell y) → ((y : A) → Fits y → BatchInRange (make y)) → (kind == k) ≡ true
-    → ((y : A × List ℕ) → read ≡ Ok y → Takes rest (spell y.0) y.1 × Fits y.0)
+made_takes : {A : Type 0} (make : A → Batch) (encoding : A → List ℕ) (Fits : A → Type 0) (k kind : ℕ) (rest : List ℕ) (read : Result (A × List ℕ) Fault) (x : Batch × List ℕ)
+    → ((y : A) → batch_bytes (make y) ≡ k ∷ encoding y) → ((y : A) → Fits y → BatchInRange (make y)) → (kind == k) ≡ true
+    → ((y : A × List ℕ) → read ≡ Ok y → Takes rest (encoding y.0) y.1 × Fits y.0)
     → (read >>= λ y. Ok (make y.0, y.1)) ≡ Ok x → Takes (kind ∷ rest) (batch_bytes x.0) x.1 × BatchInRange x.0
-made_takes {A = A} make spell Fits k kind rest read x spelled range same takes e =
+made_takes {A = A} make encoding Fits k kind rest read x encoded range same takes e =
     let a = bind_ok read (λ (y : A × List ℕ). Ok (make y.0, y.1)) x e in
     let t = takes a.0 a.1 in
     let made : Batch × List ℕ = (make a.0.0, a.0.1) in
-    let front = kind_takes kind k rest (spell a.0.0) a.0.1 same t.0 in
+    let front = kind_takes kind k rest (encoding a.0.0) a.0.1 same t.0 in
     subst (λ (y : Batch × List ℕ). Takes (kind ∷ rest) (batch_bytes y.0) y.1 × BatchInRange y.0) (ok_is {E = Fault} made x a.2)
-    (subst (λ (text : List ℕ). Takes (kind ∷ rest) text a.0.1) (sym (spelled a.0.0)) front, range a.0.0 t.1)
+    (subst (λ (text : List ℕ). Takes (kind ∷ rest) text a.0.1) (sym (encoded a.0.0)) front, range a.0.0 t.1)
 
 batch_takes : (bytes : List ℕ) (x : Batch × List ℕ) → IsBytes bytes → batch bytes ≡ Ok x → Takes bytes (batch_bytes x.0) x.1 × BatchInRange x.0
 unfolding batch
@@ -83,20 +83,15 @@ batch_takes (kind ∷ rest) x fits e =
       ]
     ]
 
-whole_takes : (bytes : List ℕ) (b : Batch) → IsBytes bytes → whole bytes ≡ Ok b → (bytes ≡ batch_bytes b) × BatchInRange b
-unfolding whole
-whole_takes bytes b fits e =
-    let a = bind_ok (batch bytes) (λ x. alone x.0 x.1) b e in
-    let t = batch_takes bytes a.0 fits a.1 in
-    let g = alone_takes a.0.0 b a.0.1 a.2 in
-    let parts : bytes ≡ batch_bytes a.0.0 = t.0.parts ∙ ap (λ (rest : List ℕ). batch_bytes a.0.0 ++ rest) g.1 ∙ append-nil (batch_bytes a.0.0) in
-    subst (λ (y : Batch). (bytes ≡ batch_bytes y) × BatchInRange y) g.0 (parts, t.1)
+-- so a whole batch is read
+pub batch_reader : IsWholeReader batch batch_bytes BatchInRange
+batch_reader = record { takes = batch_takes }
 
 -- a batch of what was read, and the bytes after it
 abbrev as_batch : {A : Type 0} → (A → Batch) → A × List ℕ → Result (Batch × List ℕ) Fault
 as_batch make x = Ok (make x.0, x.1)
 
-whole_again : (b : Batch) → BatchInRange b → HasWords b → whole (batch_bytes b) ≡ Ok b
+whole_again : (b : Batch) → BatchInRange b → HasWords b → whole batch (batch_bytes b) ≡ Ok b
 unfolding whole batch
 whole_again (Items xs) range words =
     let read : items (items_bytes xs) ≡ Ok (xs, []) = ap items (sym (append-nil (items_bytes xs))) ∙ items_again xs [] range words in
@@ -106,17 +101,9 @@ whole_again (Opened s) range words = ap (λ (r : Result (Stamp × List ℕ) Faul
 
 -- ---- answers
 
-pub is_spelled : (bytes : List ℕ) (answer : Result Batch BatchError) → IsBytes bytes → Answers (read_batch bytes) answer → IfOk answer (λ b. bytes ≡ batch_bytes b)
-is_spelled bytes (Ok b) fits said = (whole_takes bytes b fits (placed_ok bytes (whole bytes) b said)).0
-is_spelled bytes (Err e) fits said = tt
-
-pub is_in_range : (bytes : List ℕ) (answer : Result Batch BatchError) → IsBytes bytes → Answers (read_batch bytes) answer → IfOk answer (λ b. BatchInRange b)
-is_in_range bytes (Ok b) fits said = (whole_takes bytes b fits (placed_ok bytes (whole bytes) b said)).1
-is_in_range bytes (Err e) fits said = tt
-
 pub reads_back : (b : Batch) → BatchInRange b → HasWords b → read_batch (batch_bytes b) ≡ Ok b
-reads_back b range words = ap (placed (batch_bytes b)) (whole_again b range words)
+reads_back b range words = ap (with_offset (batch_bytes b)) (whole_again b range words)
 
-pub spells_to_read : (answer : Result (List ℕ) Memory) (b : Batch) → BatchInRange b → OnOk answer (HasWords b) → IfOk answer (λ bytes. bytes ≡ batch_bytes b) → IfOk answer (λ bytes. read_batch bytes ≡ Ok b)
-spells_to_read (Ok bytes) b range words e = ap read_batch e ∙ reads_back b range words
-spells_to_read (Err e) b range words said = tt
+pub encoded_reads : (answer : Result (List ℕ) Memory) (b : Batch) → BatchInRange b → OnOk answer (HasWords b) → IfOk answer (λ bytes. bytes ≡ batch_bytes b) → IfOk answer (λ bytes. read_batch bytes ≡ Ok b)
+encoded_reads (Ok bytes) b range words e = ap read_batch e ∙ reads_back b range words
+encoded_reads (Err e) b range words said = tt

@@ -1,4 +1,3 @@
-pub mod Answers
+pub mod Encoding
 pub mod Ranges
 pub mod Reading
-pub mod Spelling

@@ -1,27 +1,6 @@
 //! Why bytes are no batch.
 
-use rl_base::flaw::Flaw;
-use rl_base::memory::Memory;
-use thiserror::Error;
+use rl_fields::decode_error::DecodeError;
 
 /// Why some bytes were not read as a batch.
-#[derive(Clone, Copy, Debug, PartialEq, Eq, Error)]
-pub enum BatchError {
-    /// They spell no batch: the place of the first fault, counted from 0, and what it is.
-    #[error("{kind:?} at {at}")]
-    Fault { at: u64, kind: Flaw },
-    /// There was no memory left.
-    #[error("memory")]
-    Memory,
-}
-
-impl From<Memory> for BatchError {
-    ghost use Rattle.std.specs.Prelude.{◌≡◌};
-    ghost use Rattle.rl_batch.specs.declared.batch_error.BatchError.TheVariants.{Memory};
-
-    ghost from_gives = { λ _ e. e ≡ Memory };
-
-    fn from(_e: Memory) -> BatchError {
-        BatchError::Memory
-    }
-}
+pub type BatchError = DecodeError;

@@ -2,11 +2,11 @@
 
 ghost use Rattle.std.specs.Prelude.{◌≡◌, IfOk, Ok};
 ghost use Rattle.rl_txn.specs.declared.batch.Batch.{Batch};
-ghost use Rattle.rl_fields.specs.Answers.{Says, Gives};
-ghost use Rattle.rl_batch.specs.Answers.{Answers, error_of};
+ghost use Rattle.rl_fields.specs.Fields.{whole};
+ghost use Rattle.rl_fields.specs.Answers.{IsRead, IsReadUnlessMemory, IsDecoded};
 ghost use Rattle.rl_batch.specs.Ranges.{BatchInRange, HasWords};
-ghost use Rattle.rl_batch.specs.Spelling.{batch_bytes};
-ghost use Rattle.rl_batch.specs.Reading.{mark, batch, whole, read_batch};
+ghost use Rattle.rl_batch.specs.Encoding.{batch_bytes};
+ghost use Rattle.rl_batch.specs.Reading.{mark, batch, read_batch};
 
 use crate::batch_error::BatchError;
 use crate::item::{LAST_EPOCH, items_at};
@@ -21,51 +21,39 @@ use std::alloc::Global;
 /// The seq of an end mark, the greatest of all.
 const END_SEQ: u64 = (1 << 40) - 1;
 
-/// The batch that some bytes spell.
+/// The batch that some bytes encode.
 ///
-/// `Fault` exactly where they spell none: the first fault from left to right, and its place counted from 0. `Kind` is
+/// `Fault` exactly where they encode none: the first fault from left to right, and its offset counted from 0. `Kind` is
 /// an unknown first byte; `Short` a field that ends past the bytes, at its first byte; `Range` a field out of its
 /// range; `Order` a seq that does not rise along the batch, or the table of a write whose place does not rise along
 /// its item; `Extra` the first byte after the end.
 pub fn decode_batch(alloc: Global, x: &[u8]) -> Result<Batch, BatchError>
-    // A batch comes back only for its one spelling,
-    ensures spelled { IfOk result (λ b. x.now ≡ batch_bytes b) }
+    // A batch comes back only for its one encoding,
+    ensures encoded { IfOk result (λ b. x.now ≡ batch_bytes b) }
     ensures in_range { IfOk result (λ b. BatchInRange b) }
-    // and what spells a batch is read as that batch.
-    ensures read_back { (b : Batch) → BatchInRange b → HasWords b → x.now ≡ batch_bytes b → read_batch x.now ≡ Ok b }
+    // and what encodes a batch is read as that batch.
+    ensures read_back { (b : Batch) → BatchInRange b → HasWords b
+        → x.now ≡ batch_bytes b → read_batch x.now ≡ Ok b }
     // What is read comes back, the batch or its fault, unless memory runs out.
-    ensures exact { Answers (read_batch x.now) result }
+    ensures exact { IsDecoded (read_batch x.now) result }
 {
     read(alloc, x)
 }
 
 /// The batch that some bytes are, or their first fault.
 fn read(alloc: Global, x: &[u8]) -> Result<Batch, BatchError>
-    ensures { Answers (read_batch x.now) result }
+    ensures { IsDecoded (read_batch x.now) result }
 {
     match whole(alloc, x) {
         Ok(batch) => Ok(batch),
-        Err(e) => Err(placed(x.len(), e)),
-    }
-}
-
-/// The error with the place of its fault, counted from the first of so many bytes.
-fn placed(len: usize, e: ReadError) -> BatchError
-    ensures { result ≡ error_of len e }
-{
-    match e {
-        ReadError::Fault(fault) => BatchError::Fault {
-            at: len.saturating_sub(fault.left) as u64,
-            kind: fault.kind,
-        },
-        ReadError::Memory => BatchError::Memory,
+        Err(e) => Err(BatchError::new(x.len(), e)),
     }
 }
 
 /// A batch that no byte follows.
-#[tactic(auto, unfolding(crate::specs::Reading::whole))]
+#[tactic(auto, unfolding(rl_fields::specs::Fields::whole))]
 fn whole(alloc: Global, bytes: &[u8]) -> Result<Batch, ReadError>
-    ensures { Gives (λ b. b) result (whole bytes.now) }
+    ensures { IsReadUnlessMemory (λ b. b) result (whole batch bytes.now) }
 {
     let (batch, rest) = batch_at(alloc, bytes)?;
     Ok(alone(batch, rest)?)
@@ -74,7 +62,7 @@ fn whole(alloc: Global, bytes: &[u8]) -> Result<Batch, ReadError>
 /// A batch, and the bytes after it.
 #[tactic(auto, unfolding(crate::specs::Reading::batch))]
 fn batch_at(alloc: Global, bytes: &[u8]) -> Result<(Batch, &[u8]), ReadError>
-    ensures { Gives (λ x. (x.0, x.1.now)) result (batch bytes.now) }
+    ensures { IsReadUnlessMemory (λ x. (x.0, x.1.now)) result (batch bytes.now) }
 {
     match bytes {
         [] => Err(Fault::at(bytes, Flaw::Short).into()),
@@ -97,7 +85,7 @@ fn batch_at(alloc: Global, bytes: &[u8]) -> Result<(Batch, &[u8]), ReadError>
 /// A mark whose seq is from `low` to `high`, and the bytes after it.
 #[tactic(auto, unfolding(crate::specs::Reading::mark))]
 fn mark_at(low: u64, high: u64, bytes: &[u8]) -> Result<(Stamp, &[u8]), Fault>
-    ensures { Says (λ x. (x.0, x.1.now)) result (mark low high bytes.now) }
+    ensures { IsRead (λ x. (x.0, x.1.now)) result (mark low high bytes.now) }
 {
     let (epoch, rest) = u32_within(1, LAST_EPOCH, bytes)?;
     let (seq, rest) = u64_within(low, high, rest)?;

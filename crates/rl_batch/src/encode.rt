@@ -2,7 +2,7 @@
 
 ghost use Rattle.std.specs.Prelude.{◌≡◌, ◌++◌, IfOk, OnOk, Ok};
 ghost use Rattle.rl_batch.specs.Ranges.{BatchInRange, HasWords};
-ghost use Rattle.rl_batch.specs.Spelling.{mark_bytes, batch_bytes};
+ghost use Rattle.rl_batch.specs.Encoding.{mark_bytes, batch_bytes};
 ghost use Rattle.rl_batch.specs.Reading.{read_batch};
 
 use crate::item::push_items;
@@ -13,7 +13,7 @@ use rl_fields::writing::{push_u8, push_u32, push_u64};
 use rl_txn::batch::Batch;
 use std::alloc::Global;
 
-/// The one spelling of a batch.
+/// The one encoding of a batch.
 ///
 /// A batch has one where it is 1 to 64 items, an idle mark or an open mark, of epoch 1 to 2^20 - 1. An idle mark has seq
 /// 2 to 2^40 - 1, and an open mark seq 1. The items have one epoch, one worker 1 to 16, and rising seqs 2 to 2^40 - 2.
@@ -22,17 +22,17 @@ use std::alloc::Global;
 /// are no writes.
 pub fn encode_batch(alloc: Global, b: &Batch) -> Result<Bytes, Memory>
     requires { BatchInRange b.now }
-    ensures spelled { IfOk result (λ bytes. bytes ≡ batch_bytes b.now) }
+    ensures encoded { IfOk result (λ bytes. bytes ≡ batch_bytes b.now) }
     // Reading it gives the batch again.
     ensures read_back { IfOk result (λ bytes. read_batch bytes ≡ Ok b.now) }
 {
-    spell(alloc, b)
+    encode(alloc, b)
 }
 
 /// The bytes of a batch.
-fn spell(alloc: Global, b: &Batch) -> Result<Bytes, Memory>
+fn encode(alloc: Global, b: &Batch) -> Result<Bytes, Memory>
     requires { BatchInRange b.now }
-    ensures spelled { IfOk result (λ bytes. bytes ≡ batch_bytes b.now) }
+    ensures encoded { IfOk result (λ bytes. bytes ≡ batch_bytes b.now) }
     ensures words { OnOk result (HasWords b.now) }
 {
     let mut out = Bytes::new(alloc);

@@ -1,15 +1,16 @@
 //! The bytes of items.
 
 ghost use Rattle.std.specs.Prelude.{◌≡◌, ◌<◌, ◌≤◌, ◌++◌, ◌^◌, length, All, IfOk, OnOk};
-ghost use Rattle.rl_fields.specs.Answers.{Says, Gives};
+ghost use Rattle.rl_fields.specs.Answers.{IsRead, IsReadUnlessMemory};
 ghost use Rattle.rl_fields.specs.Fields.{series};
 ghost use Rattle.rl_batch.specs.Ranges.{EndInRange, ItemInRange, ItemsInRange, ItemHasWords, most_writes};
-ghost use Rattle.rl_batch.specs.Spelling.{end_number, item_bytes, items_bytes};
+ghost use Rattle.rl_batch.specs.Encoding.{end_number, item_bytes, items_bytes};
 ghost use Rattle.rl_batch.specs.Reading.{end_of, item, items, seq_after};
 
 use crate::row::{outs_at, push_numbers};
 use crate::write::{push_writes, writes_at};
 use rl_base::flaw::Flaw;
+use rl_base::limit::{OPS, REQUESTS, WORKERS};
 use rl_base::list::{Bytes, Seq};
 use rl_base::memory::Memory;
 use rl_base::stamp::Stamp;
@@ -23,6 +24,9 @@ use std::alloc::Global;
 /// The greatest epoch.
 pub const LAST_EPOCH: u32 = (1 << 20) - 1;
 
+/// The most items of a batch.
+pub const BATCH_ITEMS: u8 = 64;
+
 /// The greatest seq that an item may have.
 const LAST_SEQ: u64 = (1 << 40) - 2;
 
@@ -33,14 +37,14 @@ struct Shared {
     worker: u32,
 }
 
-/// 1 to 64 items, and the bytes after them.
+/// The items of a batch, and the bytes after them.
 #[tactic(auto, unfolding(crate::specs::Reading::items))]
 pub fn items_at(alloc: Global, bytes: &[u8]) -> Result<(Items, &[u8]), ReadError>
-    ensures { Gives (λ x. (x.0, x.1.now)) result (items bytes.now) }
+    ensures { IsReadUnlessMemory (λ x. (x.0, x.1.now)) result (items bytes.now) }
 {
-    let (count, rest) = u8_within(1, 64, bytes)?;
+    let (count, rest) = u8_within(1, BATCH_ITEMS, bytes)?;
     let (epoch, rest) = u32_within(1, LAST_EPOCH, rest)?;
-    let (worker, rest) = u8_within(1, 16, rest)?;
+    let (worker, rest) = u8_within(1, WORKERS as u8, rest)?;
     let worker = u32::from(worker);
     series_at(alloc, Shared { epoch, worker }, count, rest)
 }
@@ -52,7 +56,8 @@ fn series_at(
     count: u8,
     bytes: &[u8],
 ) -> Result<(Items, &[u8]), ReadError>
-    ensures { Gives (λ x. (x.0, x.1.now)) result (series (item shared.epoch shared.worker) seq_after count 0 bytes.now) }
+    ensures { IsReadUnlessMemory (λ x. (x.0, x.1.now)) result
+        (series (item shared.epoch shared.worker) seq_after count 0 bytes.now) }
 {
     let mut items = Vec::with_capacity(alloc, usize::from(count))?;
     let mut least = 0;
@@ -74,15 +79,16 @@ fn item_at(
     least: u64,
     bytes: &[u8],
 ) -> Result<(Item, &[u8]), ReadError>
-    ensures read { Gives (λ x. (x.0, x.1.now)) result (item shared.epoch shared.worker least bytes.now) }
+    ensures read { IsReadUnlessMemory (λ x. (x.0, x.1.now)) result
+        (item shared.epoch shared.worker least bytes.now) }
     ensures seq { IfOk result (λ x. x.0.stamp.seq < 2 ^ 40) }
 {
     let (seq, rest) = u64_within(2, LAST_SEQ, bytes)?;
     if seq < least {
         return Err(Fault::at(bytes, Flaw::Order).into());
     }
-    let (index, rest) = u32_within(1, 8192, rest)?;
-    let (end, rest) = u8_within(0, 64, rest)?;
+    let (index, rest) = u32_within(1, REQUESTS, rest)?;
+    let (end, rest) = u8_within(0, OPS as u8, rest)?;
     let end = end_of(end);
     let (outs, rest) = outs_at(alloc, rest)?;
     let (writes, rest) = writes_at(alloc, most_writes(end), rest)?;
@@ -117,7 +123,7 @@ fn most_writes(end: End) -> u8
     ensures { result ≡ most_writes end }
 {
     match end {
-        End::Done => 64,
+        End::Done => OPS as u8,
         End::Declined { .. } => 0,
     }
 }
@@ -125,7 +131,7 @@ fn most_writes(end: End) -> u8
 /// Appends how many items there are, what they share, and each of them.
 pub fn push_items(out: &mut Bytes, items: &[Item]) -> Result<(), Memory>
     requires { ItemsInRange items.now }
-    ensures spelled { OnOk result (out.new ≡ out.old ++ items_bytes items.now) }
+    ensures encoded { OnOk result (out.new ≡ out.old ++ items_bytes items.now) }
     ensures words { OnOk result (All ItemHasWords items.now) }
 {
     let first = &items[0];
@@ -141,7 +147,7 @@ pub fn push_items(out: &mut Bytes, items: &[Item]) -> Result<(), Memory>
 /// Appends an item.
 fn push_item(out: &mut Bytes, item: &Item) -> Result<(), Memory>
     requires { ItemInRange item.now }
-    ensures spelled { OnOk result (out.new ≡ out.old ++ item_bytes item.now) }
+    ensures encoded { OnOk result (out.new ≡ out.old ++ item_bytes item.now) }
     ensures words { OnOk result (ItemHasWords item.now) }
 {
     push_u64(out, item.stamp.seq)?;

@@ -6,6 +6,4 @@ pub mod decode;
 pub mod encode;
 mod item;
 mod row;
-#[cfg(test)]
-mod tests;
 mod write;

@@ -3,8 +3,8 @@ use Rattle.std.proofs.Common.{◌≡◌, ℕ, zero, suc, ◌<◌, ◌≤◌, [],
 use Rattle.std.proofs.lemmas.Bool.{cases_lt, cases_eq, true≢false}
 use Rattle.rl_base.specs.Lists.{IsPrefix}
 use Rattle.rl_paxos.specs.Logs.{Log}
-use Rattle.rl_election.specs.World.{Setting, World}
-use Rattle.rl_election.specs.Chosen.{IsLog, IsChosen, is_chosen_len}
+use Rattle.rl_election.specs.World.{Cluster, StreamWorld}
+use Rattle.rl_election.specs.Chosen.{IsLeaderLog, IsChosen, is_chosen_len}
 use Rattle.rl_election.proofs.Prefixes.{prefix_both, prefix_length}
 
 pub take_prefix : (n : ℕ) (xs : Log) → IsPrefix (take n xs) xs
@@ -17,14 +17,14 @@ take_length zero xs h = refl
 take_length (suc n) [] h = absurd (omega arith)
 take_length (suc n) (x ∷ xs) h = let k = take_length n xs (omega arith) in omega arith
 
-module _ (g : Setting) (w : World) (e s : ℕ) (log : Log) (is : IsLog w e s log) where
+module _ (g : Cluster) (w : StreamWorld) (e s : ℕ) (log : Log) (is : IsLeaderLog w e s log) where
   chosen_at : (n : ℕ) → n ≤ length log → is_chosen_len g w e s n ≡ true → ((m : ℕ) → n < m → m ≤ length log → is_chosen_len g w e s m ≡ false) → (chosen : Log) × IsChosen g w e s chosen
   chosen_at n short yes_at above =
       let size : length (take n log) ≡ n = take_length n log short in (
         take n log,
         record {
           log = log;
-          led = is;
+          is_log = is;
           within = take_prefix n log;
           acked = rw size yes_at;
           longest = λ longer p h. elim (cases_lt n (length longer)) [

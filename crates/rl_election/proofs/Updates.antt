@@ -2,33 +2,34 @@
 use Rattle.std.proofs.Common.{◌≡◌, ◌≢◌, ℕ, zero, suc, ◌+◌, ◌-◌, ◌<◌, List, [], ◌∷◌, ◌++◌, length, map, get_or, true, nat_le, Some, None, refl, ap, ◌∙◌, arith, inl, inr, eq-eqb, ne_eqb, length-append, get_or-set_same, get_or-set_other}
 use Rattle.std.proofs.lemmas.Bool.{cases_eq, and_parts, leb-true}
 use Rattle.std.specs.Prelude.{slice_get}
-use Rattle.rl_paxos.specs.Acceptors.{Kept, Acceptor, nothing_kept, keeps}
+use Rattle.rl_paxos.specs.Acceptors.{Kept, Acceptor, nothing_kept, with_kept}
 use Rattle.rl_paxos.specs.Leaders.{Leading, new_leading}
 use Rattle.rl_paxos.specs.Logs.{Log}
 use Rattle.rl_paxos.specs.Recovery.{Promise, recovered, recovered_logs}
 use Rattle.rl_paxos.proofs.Members.{In, in_split}
-use Rattle.rl_election.specs.World.{Setting, Says, Sync, Message, Term, to_all, syncs, upd, is_stream, no_stream, with_stream}
+use Rattle.rl_election.specs.World.{Cluster, Message, Sync, Envelope, Term, to_all, is_stream, no_stream, with_stream}
+use Rattle.rl_election.specs.StreamEvents.{syncs, updated}
 use Rattle.rl_election.proofs.Inv.{kept_at, shown, log_at}
 
-pub by_upd : {A : Type 0} (P : A → Type 0) (f : ℕ → A) (i : ℕ) (x : A) (j : ℕ) → (j ≡ i → P x) → (j ≢ i → P (f j)) → P (upd f i x j)
-by_upd P f i x j here there =
+pub by_updated : {A : Type 0} (P : A → Type 0) (f : ℕ → A) (i : ℕ) (x : A) (j : ℕ) → (j ≡ i → P x) → (j ≢ i → P (f j)) → P (updated f i x j)
+by_updated P f i x j here there =
     elim (cases_eq j i) [ inl e ↦ rw (eq-eqb j i e) (here e) | inr e ↦ rw (ne_eqb j i e) (there e) ]
 
-pub upd_same : {A : Type 0} (f : ℕ → A) (i : ℕ) (x : A) → upd f i x i ≡ x
-upd_same f i x = rw (eq-eqb i i refl)
+pub updated_same : {A : Type 0} (f : ℕ → A) (i : ℕ) (x : A) → updated f i x i ≡ x
+updated_same f i x = rw (eq-eqb i i refl)
 
-pub upd_other : {A : Type 0} (f : ℕ → A) (i : ℕ) (x : A) (j : ℕ) → j ≢ i → upd f i x j ≡ f j
-upd_other f i x j n = rw (ne_eqb j i n)
+pub updated_other : {A : Type 0} (f : ℕ → A) (i : ℕ) (x : A) (j : ℕ) → j ≢ i → updated f i x j ≡ f j
+updated_other f i x j n = rw (ne_eqb j i n)
 
 -- a stream has an index
-pub index_of : (g : Setting) (s : ℕ) → is_stream g s ≡ true → s - 1 < g.streams
+pub index_of : (g : Cluster) (s : ℕ) → is_stream g s ≡ true → s - 1 < g.streams
 index_of g s h = let k = and_parts (nat_le 1 s) (nat_le s g.streams) h in omega (arith, leb-true 1 s k.0, leb-true s g.streams k.1)
 
-pub keeps_here : (x : Acceptor) (s b : ℕ) (log : Log) → s - 1 < length x.streams → kept_at (keeps x s b log) (s - 1) ≡ record { ballot = b; log = log }
-keeps_here x s b log l = get_or-set_same x.streams (s - 1) (record { ballot = b; log = log }) nothing_kept l
+pub with_kept_here : (x : Acceptor) (s b : ℕ) (log : Log) → s - 1 < length x.streams → kept_at (with_kept x s b log) (s - 1) ≡ record { ballot = b; log = log }
+with_kept_here x s b log l = get_or-set_same x.streams (s - 1) (record { ballot = b; log = log }) nothing_kept l
 
-pub keeps_other : (x : Acceptor) (s b : ℕ) (log : Log) (j : ℕ) → j ≢ s - 1 → kept_at (keeps x s b log) j ≡ kept_at x j
-keeps_other x s b log j m = get_or-set_other x.streams (s - 1) j (record { ballot = b; log = log }) nothing_kept m
+pub with_kept_other : (x : Acceptor) (s b : ℕ) (log : Log) (j : ℕ) → j ≢ s - 1 → kept_at (with_kept x s b log) j ≡ kept_at x j
+with_kept_other x s b log j m = get_or-set_other x.streams (s - 1) j (record { ballot = b; log = log }) nothing_kept m
 
 -- a promise shows what is kept
 pub shown_is : (xs : List Kept) (i : ℕ) → shown (map (λ (k : Kept). k.ballot) xs) (map (λ (k : Kept). k.log) xs) i ≡ get_or xs i nothing_kept
@@ -38,14 +39,14 @@ shown_is (x ∷ xs) (suc i) = shown_is xs i
 
 -- ---- what is sent ----
 
-pub to_all_in : (n from : ℕ) (says : Says) (m : Message) → In m (to_all n from says) → (m.from ≡ from) × (m.says ≡ says)
-to_all_in zero from says m i = absurd i
-to_all_in (suc n) from says m i = elim (in_split (to_all n from says) (record { from = from; to = suc n; says = says } ∷ []) m i) [
-  | inl j ↦ to_all_in n from says m j
+pub to_all_in : (n from : ℕ) (message : Message) (m : Envelope) → In m (to_all n from message) → (m.from ≡ from) × (m.message ≡ message)
+to_all_in zero from message m i = absurd i
+to_all_in (suc n) from message m i = elim (in_split (to_all n from message) (record { from = from; to = suc n; message = message } ∷ []) m i) [
+  | inl j ↦ to_all_in n from message m j
   | inr j ↦ elim j [ inl e ↦ rw e (refl, refl) | inr k ↦ absurd k ]
 ]
 
-pub syncs_in : (g : Setting) (a e : ℕ) (logs : List Log) (n : ℕ) (m : Message) → In m (syncs g a e logs n) → (m.from ≡ a) × ((i : ℕ) × (m.says ≡ Sync e (suc i) (get_or logs i [])))
+pub syncs_in : (g : Cluster) (a e : ℕ) (logs : List Log) (n : ℕ) (m : Envelope) → In m (syncs g a e logs n) → (m.from ≡ a) × ((i : ℕ) × (m.message ≡ Sync e (suc i) (get_or logs i [])))
 syncs_in g a e logs zero m i = absurd i
 syncs_in g a e logs (suc n) m i = elim (in_split (syncs g a e logs n) (to_all g.nodes a (Sync e (suc n) (get_or logs n []))) m i) [
   | inl j ↦ syncs_in g a e logs n m j

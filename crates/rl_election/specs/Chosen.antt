@@ -5,59 +5,56 @@ use Rattle.rl_base.specs.Lists.{IsPrefix}
 use Rattle.rl_paxos.specs.Leaders.{Leading}
 use Rattle.rl_paxos.specs.Logs.{Log}
 use Rattle.rl_paxos.specs.Quorums.{is_quorum}
-use Rattle.rl_election.specs.World.{Setting, World, Message, Says, Prepare, Promised, Sync, Accept, Ack, Term, stream_of}
+use Rattle.rl_election.specs.World.{Cluster, Message, Ack, Envelope, Term, stream_of, StreamWorld}
 
 -- an Ack of at least a length
-abbrev pub says_ack : (epoch s len : ℕ) → Says → Bool
-says_ack epoch s len (Prepare e) = false
-says_ack epoch s len (Promised e ballots logs) = false
-says_ack epoch s len (Sync e r log) = false
-says_ack epoch s len (Accept e r slot batch) = false
-says_ack epoch s len (Ack e r l) = (e == epoch) && ((r == s) && nat_le len l)
+abbrev pub acks_at_least : (epoch s len : ℕ) → Message → Bool
+acks_at_least epoch s len (Ack e r l) = (e == epoch) && ((r == s) && nat_le len l)
+acks_at_least epoch s len other = false
 
 -- node a has ever sent one
-abbrev pub has_acked : List Message → (epoch s len a : ℕ) → Bool
-has_acked sent epoch s len a = list_any (λ m. (m.from == a) && says_ack epoch s len m.says) sent
+abbrev pub has_acked : List Envelope → (epoch s len a : ℕ) → Bool
+has_acked sent epoch s len a = list_any (λ m. (m.from == a) && acks_at_least epoch s len m.message) sent
 
 -- a second quorum has, or there is nothing to ack
-abbrev pub is_chosen_len : Setting → World → (epoch s len : ℕ) → Bool
-is_chosen_len g w epoch s len = (len == 0) || is_quorum g.second g.nodes (has_acked w.sent epoch s len)
+abbrev pub is_chosen_len : Cluster → StreamWorld → (epoch s len : ℕ) → Bool
+is_chosen_len g w epoch s len = (len == 0) || is_quorum g.second_quorum g.nodes (has_acked w.sent epoch s len)
 
 -- the log with which the leader of an epoch began on a stream
-abbrev pub first_of : Term → (s : ℕ) → Log
-first_of t s = slice_index_or t.first (s - 1) []
+abbrev pub initial_log : Term → (s : ℕ) → Log
+initial_log t s = slice_index_or t.initial (s - 1) []
 
--- the epoch has a first log on the stream, and this is it
-pub record IsFirst (w : World) (epoch s : ℕ) (first : Log) : Type 0 where
+-- the epoch has an initial log on the stream, and this is it
+pub record IsInitialLog (w : StreamWorld) (epoch s : ℕ) (initial : Log) : Type 0 where
   pub term : Term
-  pub led : w.terms epoch ≡ Some term
-  pub first_is : first_of term s ≡ first
+  pub term_is : w.terms epoch ≡ Some term
+  pub initial_is : initial_log term s ≡ initial
 
 -- the log of an epoch's one leader, as it stands or last stood
-pub record IsLog (w : World) (epoch s : ℕ) (log : Log) : Type 0 where
+pub record IsLeaderLog (w : StreamWorld) (epoch s : ℕ) (log : Log) : Type 0 where
   pub term : Term
-  pub led : w.terms epoch ≡ Some term
+  pub term_is : w.terms epoch ≡ Some term
   pub log_is : (stream_of term s).log ≡ log
 
 -- what is chosen at an epoch: the longest prefix of its log that a second quorum has acked at it
-pub record IsChosen (g : Setting) (w : World) (epoch s : ℕ) (chosen : Log) : Type 0 where
+pub record IsChosen (g : Cluster) (w : StreamWorld) (epoch s : ℕ) (chosen : Log) : Type 0 where
   pub log : Log
-  pub led : IsLog w epoch s log
+  pub is_log : IsLeaderLog w epoch s log
   pub within : IsPrefix chosen log
   pub acked : IsTrue (is_chosen_len g w epoch s (length chosen))
   pub longest : (longer : Log) → IsPrefix longer log → IsTrue (is_chosen_len g w epoch s (length longer)) → IsPrefix longer chosen
 
--- a log that was adopted at an epoch: it begins with that epoch's first log, and is a prefix of its leader's
-pub record IsAdopted (w : World) (epoch s : ℕ) (adopted : Log) : Type 0 where
-  pub first : Log
+-- a log that was adopted at an epoch: it begins with that epoch's initial log, and is a prefix of its leader's
+pub record IsAdopted (w : StreamWorld) (epoch s : ℕ) (adopted : Log) : Type 0 where
+  pub initial : Log
   pub log : Log
-  pub is_first : IsFirst w epoch s first
-  pub is_log : IsLog w epoch s log
-  pub begins : IsPrefix first adopted
+  pub is_initial : IsInitialLog w epoch s initial
+  pub is_log : IsLeaderLog w epoch s log
+  pub begins : IsPrefix initial adopted
   pub within : IsPrefix adopted log
 
 -- a stream of an epoch's one leader, as it stands or last stood
-pub record IsLeading (w : World) (epoch s : ℕ) (stream : Leading) : Type 0 where
+pub record IsLeading (w : StreamWorld) (epoch s : ℕ) (stream : Leading) : Type 0 where
   pub term : Term
-  pub led : w.terms epoch ≡ Some term
+  pub term_is : w.terms epoch ≡ Some term
   pub stream_is : stream_of term s ≡ stream

@@ -1,4 +1,6 @@
+pub mod CandidateFits
 pub mod Chosen
 pub mod Example
-pub mod Fits
+pub mod Laws
+pub mod StreamEvents
 pub mod World

@@ -2,7 +2,7 @@
 
 ghost use Rattle.std.specs.Prelude.{◌≡◌, ℕ, ◌-◌, ◌<◌, ◌≤◌, ◌↔◌, ◌&&◌, [], length, not, slice_index_or, IfOk, IsErrOf};
 ghost use Rattle.rl_paxos.specs.Quorums.{is_node};
-ghost use Rattle.rl_paxos.specs.Recovery.{new_candidate, counts, has_promised, recovered, recovered_logs, IsRecovered};
+ghost use Rattle.rl_paxos.specs.Recovery.{new_candidate, with_promise, has_promised, recovered, recovered_logs, IsRecovered};
 
 use crate::promise::Promise;
 use crate::recover_error::RecoverError;
@@ -24,13 +24,14 @@ pub struct Candidate {
 impl Model for Candidate {
     ghost use Rattle.std.specs.Prelude.{vec_capacity};
     ghost use Rattle.rl_paxos.specs.Recovery.{Candidate};
-    ghost use Rattle.rl_election.specs.Fits.{Fits};
+    ghost use Rattle.rl_election.specs.CandidateFits.{CandidateFits};
 
     ghost Value = { Candidate };
 
-    ghost view = { λ c. record { epoch = c.epoch; nodes = c.nodes; streams = c.streams; need = c.need; promises = c.promises.items } };
+    ghost view = { λ c. record {
+        epoch = c.epoch; nodes = c.nodes; streams = c.streams; need = c.need; promises = c.promises.items } };
 
-    ghost invariant = { λ c. Fits c.nodes c.streams c.need (vec_capacity c.promises) c.promises.items };
+    ghost invariant = { λ c. CandidateFits c.nodes c.streams c.need (vec_capacity c.promises) c.promises.items };
 }
 
 impl Candidate {
@@ -55,12 +56,13 @@ impl Candidate {
         })
     }
 
-    /// Counts a node's promise. A node's second is passed over, and so is that of a number that is no node's.
+    /// Counts a node's promise. A node's second is skipped, and so is that of a number that is no node's.
     /// The answer is how many nodes have promised.
     pub fn promise(&mut self, node: u32, ballots: Ballots, logs: Logs) -> u32
         requires ballots { length ballots ≡ self.old.streams }
         requires logs { length logs ≡ self.old.streams }
-        ensures counted { self.new ≡ counts self.old (record { node = node; ballots = ballots; logs = logs }) }
+        ensures counted { self.new ≡ with_promise self.old
+            (record { node = node; ballots = ballots; logs = logs }) }
         ensures have { result ≡ length self.new.promises }
     {
         if self.is_new(node) {
@@ -74,9 +76,12 @@ impl Candidate {
     /// The recovered log of each stream, copied. `NotYet` exactly while fewer nodes have promised than are needed.
     pub fn recover(&self, alloc: Global) -> Result<Logs, RecoverError>
         ensures ok { IfOk result (λ logs. logs ≡ recovered_logs self.now.promises self.now.streams) }
-        ensures rule { IfOk result (λ logs. (s : ℕ) → 1 ≤ s → s ≤ self.now.streams → IsRecovered self.now.promises s (slice_index_or logs (s - 1) [])) }
-        ensures early { IsErrOf result (RecoverError.NotYet (length self.now.promises) self.now.need) ↔ (length self.now.promises < self.now.need) }
-        ensures exact { (have need : ℕ) → IsErrOf result (RecoverError.NotYet have need) → (have ≡ length self.now.promises) × (need ≡ self.now.need) }
+        ensures rule { IfOk result (λ logs. (s : ℕ) → 1 ≤ s → s ≤ self.now.streams
+            → IsRecovered self.now.promises s (slice_index_or logs (s - 1) [])) }
+        ensures early { IsErrOf result (RecoverError.NotYet (length self.now.promises) self.now.need)
+            ↔ (length self.now.promises < self.now.need) }
+        ensures exact { (have need : ℕ) → IsErrOf result (RecoverError.NotYet have need)
+            → (have ≡ length self.now.promises) × (need ≡ self.now.need) }
     {
         let have = self.have();
         if have < self.need {
@@ -142,80 +147,5 @@ impl Candidate {
             }
         }
         best.log(s)
-    }
-}
-
-#[cfg(test)]
-mod tests {
-    use super::*;
-    use rl_base::list::Bytes;
-    use std::test::Fail;
-
-    /// One stream's ballot.
-    fn ballots(alloc: Global, ballot: u32) -> Result<Ballots, Memory>
-        ensures { IfOk result (λ ballots. length ballots ≡ 1) }
-    {
-        let mut ballots = Ballots::new(alloc);
-        ballots.push(ballot)?;
-        Ok(ballots)
-    }
-
-    /// One stream's log of batches of one byte.
-    fn logs(alloc: Global, bytes: &[u8]) -> Result<Logs, Memory>
-        ensures { IfOk result (λ logs. length logs ≡ 1) }
-    {
-        let mut log = Log::new(alloc);
-        for byte in bytes {
-            log.push(Bytes::from_slice(alloc, &[*byte])?)?;
-        }
-        let mut logs = Logs::new(alloc);
-        logs.push(log)?;
-        Ok(logs)
-    }
-
-    #[test]
-    fn the_longest_log_of_the_highest_ballot(rt: HostRuntime) -> Result<(), Fail> {
-        let alloc = rt.alloc();
-        let mut candidate = Candidate::start(alloc, 3, 3, 1, 2)?;
-        match candidate.recover(alloc) {
-            Err(e) => assert_eq!(rt; e, RecoverError::NotYet { have: 0, need: 2 }),
-            Ok(_) => assert!(rt; false),
-        }
-        assert_eq!(rt;
-            candidate.promise(1, ballots(alloc, 1)?, logs(alloc, b"ab")?),
-            1
-        );
-        assert_eq!(rt;
-            candidate.promise(1, ballots(alloc, 1)?, logs(alloc, b"ab")?),
-            1
-        );
-        assert_eq!(rt;
-            candidate.promise(3, ballots(alloc, 2)?, logs(alloc, b"a")?),
-            2
-        );
-        assert_eq!(rt;
-            candidate.promise(1, ballots(alloc, 9)?, logs(alloc, b"abc")?),
-            2
-        );
-        let logs = candidate.recover(alloc)?;
-        assert_eq!(rt; logs.len(), 1);
-        let log = logs.get(0);
-        assert_eq!(rt; log.len(), 1);
-        assert_eq!(rt; log.get(0).as_slice(), b"a".as_slice());
-        Ok(())
-    }
-
-    #[test]
-    fn one_log_of_three_and_no_slot_of_another(rt: HostRuntime) -> Result<(), Fail> {
-        let alloc = rt.alloc();
-        let mut candidate = Candidate::start(alloc, 4, 3, 1, 3)?;
-        let _ = candidate.promise(1, ballots(alloc, 1)?, logs(alloc, b"ab")?);
-        let _ = candidate.promise(2, ballots(alloc, 2)?, logs(alloc, b"ac")?);
-        let _ = candidate.promise(3, ballots(alloc, 3)?, logs(alloc, b"a")?);
-        let logs = candidate.recover(alloc)?;
-        let log = logs.get(0);
-        assert_eq!(rt; log.len(), 1);
-        assert_eq!(rt; log.get(0).as_slice(), b"a".as_slice());
-        Ok(())
     }
 }

@@ -5,5 +5,3 @@ pub mod candidate;
 pub mod laws;
 mod promise;
 pub mod recover_error;
-#[cfg(test)]
-mod tests;

@@ -1,4 +1,4 @@
--- What a reader of a field takes is spelled so, and what is spelled so is read again.
+-- What a reader of a field takes is encoded so, and what is encoded so is read again.
 use Rattle.std.proofs.Common.{◌≡◌, ◌⊎◌, inl, inr, ℕ, suc, ◌+◌, ◌^◌, ◌<◌, ◌≤◌, Bool, true, false, cond, ltb, leb, ◌&&◌, List, [], ◌∷◌, ◌++◌, length, take, drop, Result, Ok, Err, refl, sym, ap, subst, ◌∙◌, append_assoc, arith}
 use Rattle.std.proofs.lemmas.Bool.{ltb-false, le-ltb, leb-true, le-leb}
 use Rattle.std.proofs.lemmas.List.{take_at, drop_at, take-append-drop, length-append, length-take, get_or-drop}
@@ -8,9 +8,10 @@ use Rattle.rl_base.specs.Numbers.{IsBytes}
 use Rattle.rl_base.proofs.NumberLemmas.{big_bytes-number}
 use Rattle.rl_base.specs.declared.flaw.Flaw.{Flaw}
 use Rattle.rl_base.specs.declared.flaw.Flaw.TheVariants.{Short, Range}
-use Rattle.rl_fields.specs.Faults.{fault_at, placed}
+use Rattle.rl_base.specs.Results.{◌>>=◌}
+use Rattle.rl_fields.specs.Faults.{fault_at, with_offset}
 use Rattle.rl_fields.specs.declared.fault.Fault.{Fault}
-use Rattle.rl_fields.specs.Fields.{◌>>=◌, number, within, string, alone}
+use Rattle.rl_fields.specs.Fields.{number, within, string, alone}
 
 pub IsBytes-drop : (n : ℕ) (bytes : List ℕ) → IsBytes bytes → IsBytes (drop n bytes)
 IsBytes-drop n bytes h i = rw get_or-drop (h (n + i))
@@ -39,7 +40,7 @@ done x = Ok x
 pub ok_is : {A E : Type 0} (x y : A) → done {E = E} x ≡ done y → x ≡ y
 ok_is x y e = cc
 
--- what a reader took from the front
+-- what a reader took from the prefix
 pub record Takes (bytes text rest : List ℕ) : Type 0 where
   pub parts : bytes ≡ text ++ rest
   pub rest_fits : IsBytes rest
@@ -56,10 +57,10 @@ pub chosen : {A : Type 0} (b : Bool) (x y z : A) → cond b x y ≡ z → ((b �
 chosen true x y z e = inl (refl, e)
 chosen false x y z e = inr (refl, e)
 
--- what is read with its place is what is read
-pub placed_ok : {A : Type 0} (bytes : List ℕ) (r : Result A Fault) (x : A) → placed bytes r ≡ Ok x → r ≡ Ok x
-placed_ok bytes (Ok x) y e = ap Ok (ok_is {E = ℕ × Flaw} x y e)
-placed_ok bytes (Err f) y e = absurd cc
+-- what is read with the offset of its fault is what is read
+pub with_offset_ok : {A : Type 0} (bytes : List ℕ) (r : Result A Fault) (x : A) → with_offset bytes r ≡ Ok x → r ≡ Ok x
+with_offset_ok bytes (Ok x) y e = ap Ok (ok_is {E = ℕ × Flaw} x y e)
+with_offset_ok bytes (Err f) y e = absurd cc
 
 both_true : (a b : Bool) → a ≡ true → b ≡ true → (a && b) ≡ true
 both_true true b p q = q

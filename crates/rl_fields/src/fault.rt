@@ -7,7 +7,7 @@ use rl_base::flaw::Flaw;
 use rl_base::memory::Memory;
 use std::alloc::{AllocError, AllocFailed};
 
-/// The first fault of some bytes: what it is, and how many bytes were left at its place.
+/// The first fault of some bytes: what it is, and how many bytes were left there.
 #[derive(Clone, Copy, Debug, PartialEq, Eq)]
 pub struct Fault {
     pub left: usize,

@@ -1,9 +1,8 @@
 //! The fields of byte strings, read from left to right and written.
 #![tactic(auto)]
 
+pub mod decode_error;
 pub mod fault;
 pub mod number;
 pub mod string;
-#[cfg(test)]
-mod tests;
 pub mod writing;

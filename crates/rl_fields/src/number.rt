@@ -1,7 +1,7 @@
 //! Numbers of one, four and eight bytes, the highest first.
 
 ghost use Rattle.std.specs.Prelude.{◌≤◌, IfOk};
-ghost use Rattle.rl_fields.specs.Answers.{Says};
+ghost use Rattle.rl_fields.specs.Answers.{IsRead};
 ghost use Rattle.rl_fields.specs.Fields.{number, within};
 
 use crate::fault::Fault;
@@ -11,7 +11,7 @@ use rl_base::flaw::Flaw;
 /// A byte from `low` to `high`, and the bytes after it: else `Short` or `Range` at the first of the bytes.
 #[tactic(auto, unfolding(crate::specs::Fields::number, crate::specs::Fields::within))]
 pub fn u8_within(low: u8, high: u8, bytes: &[u8]) -> Result<(u8, &[u8]), Fault>
-    ensures read { Says (λ x. (x.0, x.1.now)) result (within 1 low high bytes.now) }
+    ensures read { IsRead (λ x. (x.0, x.1.now)) result (within 1 low high bytes.now) }
     ensures low { IfOk result (λ x. low ≤ x.0) }
     ensures high { IfOk result (λ x. x.0 ≤ high) }
 {
@@ -27,7 +27,7 @@ pub fn u8_within(low: u8, high: u8, bytes: &[u8]) -> Result<(u8, &[u8]), Fault>
 /// A number of four bytes, and the bytes after it: else `Short` at the first of the bytes.
 #[tactic(auto, unfolding(crate::specs::Fields::number))]
 pub fn u32_at(bytes: &[u8]) -> Result<(u32, &[u8]), Fault>
-    ensures { Says (λ x. (x.0, x.1.now)) result (number 4 bytes.now) }
+    ensures { IsRead (λ x. (x.0, x.1.now)) result (number 4 bytes.now) }
 {
     if bytes.len() < 4 {
         return Err(Fault::at(bytes, Flaw::Short));
@@ -39,7 +39,7 @@ pub fn u32_at(bytes: &[u8]) -> Result<(u32, &[u8]), Fault>
 /// A number of eight bytes, and the bytes after it: else `Short` at the first of the bytes.
 #[tactic(auto, unfolding(crate::specs::Fields::number))]
 pub fn u64_at(bytes: &[u8]) -> Result<(u64, &[u8]), Fault>
-    ensures { Says (λ x. (x.0, x.1.now)) result (number 8 bytes.now) }
+    ensures { IsRead (λ x. (x.0, x.1.now)) result (number 8 bytes.now) }
 {
     if bytes.len() < 8 {
         return Err(Fault::at(bytes, Flaw::Short));
@@ -52,7 +52,7 @@ pub fn u64_at(bytes: &[u8]) -> Result<(u64, &[u8]), Fault>
 /// bytes.
 #[tactic(auto, unfolding(crate::specs::Fields::within))]
 pub fn u32_within(low: u32, high: u32, bytes: &[u8]) -> Result<(u32, &[u8]), Fault>
-    ensures read { Says (λ x. (x.0, x.1.now)) result (within 4 low high bytes.now) }
+    ensures read { IsRead (λ x. (x.0, x.1.now)) result (within 4 low high bytes.now) }
     ensures low { IfOk result (λ x. low ≤ x.0) }
     ensures high { IfOk result (λ x. x.0 ≤ high) }
 {
@@ -67,7 +67,7 @@ pub fn u32_within(low: u32, high: u32, bytes: &[u8]) -> Result<(u32, &[u8]), Fau
 /// bytes.
 #[tactic(auto, unfolding(crate::specs::Fields::within))]
 pub fn u64_within(low: u64, high: u64, bytes: &[u8]) -> Result<(u64, &[u8]), Fault>
-    ensures read { Says (λ x. (x.0, x.1.now)) result (within 8 low high bytes.now) }
+    ensures read { IsRead (λ x. (x.0, x.1.now)) result (within 8 low high bytes.now) }
     ensures low { IfOk result (λ x. low ≤ x.0) }
     ensures high { IfOk result (λ x. x.0 ≤ high) }
 {

@@ -18,7 +18,7 @@ same_default [] i d e within = absurd (omega arith)
 same_default (x ∷ xs) zero d e within = refl
 same_default (x ∷ xs) (suc i) d e within = same_default xs i d e (omega arith)
 
--- the two elements at one place
+-- the two elements at one stream_and_slot
 pub zip-at : {X Y : Type 0} (xs : List X) (ys : List Y) (i : ℕ) (d : X) (y : Y) → i < length xs → i < length ys → y ≡ get_or ys i y → (get_or xs i d, y) ≡ get_or (zip xs ys) i (get_or xs i d, y)
 zip-at {X = X} {Y = Y} xs ys i d y in_xs in_ys is =
     let pair : X × Y = (get_or xs i d, y) in

@@ -1,4 +1,4 @@
-pub mod Answers
+pub mod Encoding
+pub mod Parts
 pub mod Ranges
 pub mod Reading
-pub mod Spelling

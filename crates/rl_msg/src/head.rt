@@ -1,11 +1,12 @@
 //! What each message begins with, behind its kind.
 
 ghost use Rattle.std.specs.Prelude.{◌≡◌, ◌++◌, OnOk};
-ghost use Rattle.rl_fields.specs.Answers.{Says};
+ghost use Rattle.rl_fields.specs.Answers.{IsRead};
 ghost use Rattle.rl_msg.specs.Ranges.{HeadInRange};
-ghost use Rattle.rl_msg.specs.Spelling.{head_bytes};
+ghost use Rattle.rl_msg.specs.Encoding.{head_bytes};
 ghost use Rattle.rl_msg.specs.Reading.{head};
 
+use rl_base::limit::NODES;
 use rl_base::list::Bytes;
 use rl_base::memory::Memory;
 use rl_fields::fault::Fault;
@@ -16,7 +17,7 @@ use rl_fields::writing::{push_u8, push_u32};
 pub const LAST_EPOCH: u32 = (1 << 20) - 1;
 
 /// The greatest number of a node.
-const LAST_NODE: u8 = 7;
+const LAST_NODE: u8 = NODES as u8;
 
 /// Sender, receiver and epoch.
 #[derive(Clone, Copy, Debug)]
@@ -29,7 +30,7 @@ pub struct Head {
 /// A head, and the bytes after it.
 #[tactic(auto, unfolding(crate::specs::Reading::head))]
 pub fn head_at(bytes: &[u8]) -> Result<(Head, &[u8]), Fault>
-    ensures { Says (λ x. (x.0, x.1.now)) result (head bytes.now) }
+    ensures { IsRead (λ x. (x.0, x.1.now)) result (head bytes.now) }
 {
     let (from, rest) = u8_within(1, LAST_NODE, bytes)?;
     let (to, rest) = u8_within(1, LAST_NODE, rest)?;
@@ -43,11 +44,11 @@ pub fn head_at(bytes: &[u8]) -> Result<(Head, &[u8]), Fault>
 }
 
 /// Appends a head.
-pub fn push_head(out: &mut Bytes, from: u32, to: u32, epoch: u32) -> Result<(), Memory>
-    requires { HeadInRange from to epoch }
-    ensures { OnOk result (out.new ≡ out.old ++ head_bytes from to epoch) }
+pub fn push_head(out: &mut Bytes, head: Head) -> Result<(), Memory>
+    requires { HeadInRange head.from head.to head.epoch }
+    ensures { OnOk result (out.new ≡ out.old ++ head_bytes head.from head.to head.epoch) }
 {
-    push_u8(out, from as u8)?;
-    push_u8(out, to as u8)?;
-    push_u32(out, epoch)
+    push_u8(out, head.from as u8)?;
+    push_u8(out, head.to as u8)?;
+    push_u32(out, head.epoch)
 }

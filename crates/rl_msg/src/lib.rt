@@ -7,5 +7,3 @@ mod head;
 mod log;
 pub mod msg;
 pub mod msg_error;
-#[cfg(test)]
-mod tests;

@@ -2,13 +2,14 @@
 
 ghost use Rattle.std.specs.Prelude.{◌≡◌, ◌≤◌, ◌++◌, length, IfOk, OnOk};
 ghost use Rattle.std.specs.List.{zip};
-ghost use Rattle.rl_fields.specs.Answers.{Says, Gives};
+ghost use Rattle.rl_fields.specs.Answers.{IsRead, IsReadUnlessMemory};
 ghost use Rattle.rl_fields.specs.Fields.{several};
-ghost use Rattle.rl_msg.specs.Ranges.{BatchInRange, LogInRange, StreamInRange, StreamsInRange};
-ghost use Rattle.rl_msg.specs.Spelling.{batch_bytes, log_bytes, streams_bytes, place_bytes};
-ghost use Rattle.rl_msg.specs.Reading.{batch, log, stream, streams, place};
+ghost use Rattle.rl_msg.specs.Ranges.{EmbeddedBatchInRange, LogInRange, StreamInRange, StreamsInRange};
+ghost use Rattle.rl_msg.specs.Encoding.{embedded_batch_bytes, log_bytes, streams_bytes, stream_and_slot_bytes};
+ghost use Rattle.rl_msg.specs.Reading.{embedded_batch, log, stream, streams, stream_and_slot};
 
 use crate::head::LAST_EPOCH;
+use rl_base::limit::{SLOTS, WORKERS};
 use rl_base::list::{Ballots, Bytes, Log, Logs};
 use rl_base::memory::Memory;
 use rl_fields::fault::{Fault, ReadError};
@@ -18,20 +19,17 @@ use rl_fields::writing::{push_u8, push_u32};
 use std::alloc::Global;
 
 /// How many bytes a batch may have.
-const MOST_BYTES: u32 = 262144;
+pub const BATCH_BYTES: u32 = 262144;
 
-/// How many batches a log may have.
-const MOST_BATCHES: u32 = 4096;
-
-/// How many streams there may be.
-pub const MOST_STREAMS: u8 = 16;
+/// The greatest number of a stream.
+pub const LAST_STREAM: u8 = WORKERS as u8;
 
 /// The bytes of a batch, and those after it.
-#[tactic(auto, unfolding(crate::specs::Reading::batch))]
-pub fn batch_at(alloc: Global, bytes: &[u8]) -> Result<(Bytes, &[u8]), ReadError>
-    ensures { Gives (λ x. (x.0, x.1.now)) result (batch bytes.now) }
+#[tactic(auto, unfolding(crate::specs::Reading::embedded_batch))]
+pub fn embedded_batch_at(alloc: Global, bytes: &[u8]) -> Result<(Bytes, &[u8]), ReadError>
+    ensures { IsReadUnlessMemory (λ x. (x.0, x.1.now)) result (embedded_batch bytes.now) }
 {
-    let (len, rest) = u32_within(1, MOST_BYTES, bytes)?;
+    let (len, rest) = u32_within(1, BATCH_BYTES, bytes)?;
     let (batch, rest) = string(len as usize, rest)?;
     Ok((Bytes::from_slice(alloc, batch)?, rest))
 }
@@ -39,20 +37,20 @@ pub fn batch_at(alloc: Global, bytes: &[u8]) -> Result<(Bytes, &[u8]), ReadError
 /// A log, and the bytes after it.
 #[tactic(auto, unfolding(crate::specs::Reading::log))]
 pub fn log_at(alloc: Global, bytes: &[u8]) -> Result<(Log, &[u8]), ReadError>
-    ensures { Gives (λ x. (x.0, x.1.now)) result (log bytes.now) }
+    ensures { IsReadUnlessMemory (λ x. (x.0, x.1.now)) result (log bytes.now) }
 {
-    let (count, rest) = u32_within(0, MOST_BATCHES, bytes)?;
+    let (count, rest) = u32_within(0, SLOTS, bytes)?;
     batches_at(alloc, count, rest)
 }
 
 /// So many batches, and the bytes after them.
 fn batches_at(alloc: Global, count: u32, bytes: &[u8]) -> Result<(Log, &[u8]), ReadError>
-    ensures { Gives (λ x. (x.0, x.1.now)) result (several batch count bytes.now) }
+    ensures { IsReadUnlessMemory (λ x. (x.0, x.1.now)) result (several embedded_batch count bytes.now) }
 {
     let mut log = Vec::new(alloc);
     let mut rest = bytes;
     for _batch in 0..count {
-        let (batch, after) = batch_at(alloc, rest)?;
+        let (batch, after) = embedded_batch_at(alloc, rest)?;
         log.push(batch)?;
         rest = after;
     }
@@ -62,10 +60,10 @@ fn batches_at(alloc: Global, count: u32, bytes: &[u8]) -> Result<(Log, &[u8]), R
 /// The ballots and the logs of streams, and the bytes after them.
 #[tactic(auto, unfolding(crate::specs::Reading::streams))]
 pub fn streams_at(alloc: Global, bytes: &[u8]) -> Result<(Ballots, Logs, &[u8]), ReadError>
-    ensures streams { Gives (λ x. (zip x.0 x.1, x.2.now)) result (streams bytes.now) }
+    ensures streams { IsReadUnlessMemory (λ x. (zip x.0 x.1, x.2.now)) result (streams bytes.now) }
     ensures as_many { IfOk result (λ x. length x.1 ≡ length x.0) }
 {
-    let (count, rest) = u8_within(1, MOST_STREAMS, bytes)?;
+    let (count, rest) = u8_within(1, LAST_STREAM, bytes)?;
     each_stream_at(alloc, count, rest)
 }
 
@@ -75,7 +73,7 @@ fn each_stream_at(
     count: u8,
     bytes: &[u8],
 ) -> Result<(Ballots, Logs, &[u8]), ReadError>
-    ensures streams { Gives (λ x. (zip x.0 x.1, x.2.now)) result (several stream count bytes.now) }
+    ensures streams { IsReadUnlessMemory (λ x. (zip x.0 x.1, x.2.now)) result (several stream count bytes.now) }
     ensures as_many { IfOk result (λ x. length x.1 ≡ length x.0) }
 {
     let mut ballots = Vec::new(alloc);
@@ -93,27 +91,27 @@ fn each_stream_at(
 /// The ballot and the log of a stream, and the bytes after them.
 #[tactic(auto, unfolding(crate::specs::Reading::stream))]
 fn stream_at(alloc: Global, bytes: &[u8]) -> Result<(u32, Log, &[u8]), ReadError>
-    ensures { Gives (λ x. ((x.0, x.1), x.2.now)) result (stream bytes.now) }
+    ensures { IsReadUnlessMemory (λ x. ((x.0, x.1), x.2.now)) result (stream bytes.now) }
 {
     let (ballot, rest) = u32_within(0, LAST_EPOCH, bytes)?;
     let (log, rest) = log_at(alloc, rest)?;
     Ok((ballot, log, rest))
 }
 
-/// A stream and a number up to the greatest, and the bytes after them.
-#[tactic(auto, unfolding(crate::specs::Reading::place))]
-pub fn place_at(greatest: u32, bytes: &[u8]) -> Result<(u32, u32, &[u8]), Fault>
-    ensures { Says (λ x. ((x.0, x.1), x.2.now)) result (place greatest bytes.now) }
+/// A stream and a slot or a length up to the greatest, and the bytes after them.
+#[tactic(auto, unfolding(crate::specs::Reading::stream_and_slot))]
+pub fn stream_and_slot_at(greatest: u32, bytes: &[u8]) -> Result<(u32, u32, &[u8]), Fault>
+    ensures { IsRead (λ x. ((x.0, x.1), x.2.now)) result (stream_and_slot greatest bytes.now) }
 {
-    let (stream, rest) = u8_within(1, MOST_STREAMS, bytes)?;
-    let (number, rest) = u32_within(0, greatest, rest)?;
-    Ok((u32::from(stream), number, rest))
+    let (stream, rest) = u8_within(1, LAST_STREAM, bytes)?;
+    let (slot, rest) = u32_within(0, greatest, rest)?;
+    Ok((u32::from(stream), slot, rest))
 }
 
 /// Appends how many bytes a batch has, and these.
-pub fn push_batch(out: &mut Bytes, batch: &[u8]) -> Result<(), Memory>
-    requires { BatchInRange batch.now }
-    ensures { OnOk result (out.new ≡ out.old ++ batch_bytes batch.now) }
+pub fn push_embedded_batch(out: &mut Bytes, batch: &[u8]) -> Result<(), Memory>
+    requires { EmbeddedBatchInRange batch.now }
+    ensures { OnOk result (out.new ≡ out.old ++ embedded_batch_bytes batch.now) }
 {
     push_u32(out, batch.len() as u32)?;
     out.append(batch)
@@ -126,7 +124,7 @@ pub fn push_log(out: &mut Bytes, log: &[Bytes]) -> Result<(), Memory>
 {
     push_u32(out, log.len() as u32)?;
     for batch in log {
-        push_batch(out, batch.as_slice())?;
+        push_embedded_batch(out, batch.as_slice())?;
     }
     Ok(())
 }
@@ -144,11 +142,11 @@ pub fn push_streams(out: &mut Bytes, ballots: &[u32], logs: &[Log]) -> Result<()
     Ok(())
 }
 
-/// Appends a stream and a number.
-pub fn push_place(out: &mut Bytes, stream: u32, number: u32) -> Result<(), Memory>
+/// Appends a stream and a slot or a length.
+pub fn push_stream_and_slot(out: &mut Bytes, stream: u32, slot: u32) -> Result<(), Memory>
     requires { StreamInRange stream }
-    ensures { OnOk result (out.new ≡ out.old ++ place_bytes stream number) }
+    ensures { OnOk result (out.new ≡ out.old ++ stream_and_slot_bytes stream slot) }
 {
     push_u8(out, stream as u8)?;
-    push_u32(out, number)
+    push_u32(out, slot)
 }

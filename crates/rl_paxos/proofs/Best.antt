@@ -1,5 +1,5 @@
 -- The best of some promises.
-use Rattle.std.proofs.Common.{◌≡◌, ◌⊎◌, ℕ, ◌<◌, ◌≤◌, List, [], ◌∷◌, length, get_or, Bool, true, false, cond, ◌||◌, ◌&&◌, ◌==◌, nat_lt, refl, ap, arith, inl, inr}
+use Rattle.std.proofs.Common.{◌≡◌, ◌⊎◌, ℕ, ◌<◌, ◌≤◌, List, [], ◌∷◌, length, Bool, true, false, cond, ◌||◌, ◌&&◌, ◌==◌, nat_lt, refl, arith, inl, inr}
 use Rattle.std.proofs.lemmas.Bool.{cond_both}
 use Rattle.std.proofs.lemmas.Bool.Decides.{nat_tests}
 use Rattle.std.specs.List.{best_of}
@@ -64,15 +64,6 @@ best_top s p (q ∷ qs) x i =
         | inr k ↦ best_top s (better s p q) qs x (inr k)
       ]
     ]
-
--- the search may begin with the first and go over it again
-pub recovered_again : (s : ℕ) (p : Promise) (ps : List Promise) → p ≡ get_or ps 0 p → 0 < length ps → promised_log s (best_of (is_better s) p ps) ≡ recovered ps s
-recovered_again s p [] e h = absurd (omega arith)
-recovered_again s p (q ∷ qs) e h =
-    let first : p ≡ q = e in
-    let f : Promise → Promise → Promise = λ b x. cond (is_better s x b) x b in
-    let same : f p q ≡ q = cond_both (is_better s q p) q p (λ z. z ≡ q) (λ t. refl) (λ t. first) in
-    ap (λ b. promised_log s (best_of (is_better s) b qs)) same
 
 -- what is recovered is recovered by the rule in full
 pub best_is_recovered : (p : Promise) (ps : List Promise) (s : ℕ) → IsRecovered (p ∷ ps) s (recovered (p ∷ ps) s)

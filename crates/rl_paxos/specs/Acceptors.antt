@@ -26,11 +26,13 @@ new_acceptor streams = record { promised = 0; streams = replicate streams nothin
 abbrev pub kept_of : Acceptor → (s : ℕ) → Kept
 kept_of x s = slice_index_or x.streams (s - 1) nothing_kept
 
-abbrev pub ballot_of : Acceptor → (s : ℕ) → ℕ
-ballot_of x s = (kept_of x s).ballot
+-- the ballot of stream s
+abbrev pub kept_ballot : Acceptor → (s : ℕ) → ℕ
+kept_ballot x s = (kept_of x s).ballot
 
-abbrev pub log_of : Acceptor → (s : ℕ) → Log
-log_of x s = (kept_of x s).log
+-- the log of stream s
+abbrev pub kept_log : Acceptor → (s : ℕ) → Log
+kept_log x s = (kept_of x s).log
 
 -- s is the number of a stream
 abbrev pub HasStream : Acceptor → (s : ℕ) → Type 0
@@ -44,21 +46,23 @@ refuses x epoch = if nat_lt epoch x.promised then Some (Promised x.promised) els
 abbrev pub refuses_accept : Acceptor → (epoch s slot : ℕ) → Option Refused
 refuses_accept x epoch s slot =
     if nat_lt epoch x.promised then Some (Promised x.promised)
-    else if ballot_of x s == epoch then (if nat_lt (length (log_of x s)) slot then Some (OutOfOrder (length (log_of x s))) else None)
-    else Some (OtherBallot (ballot_of x s))
+    else if kept_ballot x s == epoch
+    then (if nat_lt (length (kept_log x s)) slot then Some (OutOfOrder (length (kept_log x s))) else None)
+    else Some (OtherBallot (kept_ballot x s))
 
 -- after a Prepare that was not refused
 abbrev pub prepared : Acceptor → (epoch : ℕ) → Acceptor
 prepared x epoch = record x { promised = epoch }
 
 -- with another log, adopted at a ballot
-abbrev pub keeps : Acceptor → (s ballot : ℕ) → Log → Acceptor
-keeps x s ballot log = record x { streams = slice_set x.streams (s - 1) (record { ballot = ballot; log = log }) }
+abbrev pub with_kept : Acceptor → (s ballot : ℕ) → Log → Acceptor
+with_kept x s ballot log = record x { streams = slice_set x.streams (s - 1) (record { ballot = ballot; log = log }) }
 
 -- after a Sync that was not refused: a log of a lower ballot is replaced, and one of the same ballot stays
 abbrev pub synced : Acceptor → (epoch s : ℕ) → Log → Acceptor
-synced x epoch s log = if nat_lt (ballot_of x s) epoch then keeps (prepared x epoch) s epoch log else prepared x epoch
+synced x epoch s log = if nat_lt (kept_ballot x s) epoch then with_kept (prepared x epoch) s epoch log else prepared x epoch
 
 -- after an Accept that was not refused: a batch for the next slot is appended, and one for an earlier slot changes nothing
 abbrev pub accepted : Acceptor → (s slot : ℕ) → Batch → Acceptor
-accepted x s slot batch = if slot == length (log_of x s) then keeps x s (ballot_of x s) (log_of x s ++ batch ∷ []) else x
+accepted x s slot batch =
+    if slot == length (kept_log x s) then with_kept x s (kept_ballot x s) (kept_log x s ++ batch ∷ []) else x

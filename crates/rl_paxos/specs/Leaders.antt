@@ -3,35 +3,39 @@ use Rattle.std.specs.Prelude.{ℕ, ◌-◌, ◌≤◌, max, List, [], ◌∷◌,
 use Rattle.rl_paxos.specs.Logs.{Batch, Log}
 use Rattle.rl_paxos.specs.Quorums.{is_node}
 
--- a stream at its leader: how long the first log was, the log now, and the greatest length that each node has acked
+-- a stream at its leader: how long the initial log was, the log now, and the greatest length that each node has acked
 pub record Leading : Type 0 where
   pub epoch : ℕ
   pub quorum : ℕ
-  pub first : ℕ
+  pub initial_len : ℕ
   pub log : Log
   pub acked : List ℕ
 
 -- a leader begins with a log, of which no node has acked anything
 abbrev pub new_leading : (epoch nodes quorum : ℕ) → Log → Leading
-new_leading epoch nodes quorum log = record { epoch = epoch; quorum = quorum; first = length log; log = log; acked = replicate nodes 0 }
+new_leading epoch nodes quorum log =
+    record { epoch = epoch; quorum = quorum; initial_len = length log; log = log; acked = replicate nodes 0 }
 
 -- a proposal takes the next slot
 abbrev pub proposed : Leading → Batch → Leading
 proposed x batch = record x { log = x.log ++ batch ∷ [] }
 
 -- the greatest length that a node has acked; 0 of a number that is no node's
-abbrev pub acked_by : Leading → (node : ℕ) → ℕ
-acked_by x node = if is_node (length x.acked) node then slice_index x.acked (node - 1) else 0
+abbrev pub acked_len : Leading → (node : ℕ) → ℕ
+acked_len x node = if is_node (length x.acked) node then slice_index x.acked (node - 1) else 0
 
 -- after an Ack: the greatest length of each node counts, so a late one changes nothing
-abbrev pub acks : Leading → (node len : ℕ) → Leading
-acks x node len = if is_node (length x.acked) node then record x { acked = slice_set x.acked (node - 1) (max (slice_index x.acked (node - 1)) len) } else x
+abbrev pub with_ack : Leading → (node len : ℕ) → Leading
+with_ack x node len =
+    if is_node (length x.acked) node
+    then record x { acked = slice_set x.acked (node - 1) (max (slice_index x.acked (node - 1)) len) }
+    else x
 
 -- how many nodes have acked a length
-abbrev pub reached : List ℕ → (len : ℕ) → ℕ
-reached acked len = count_by (λ a. nat_le len a) acked
+abbrev pub acked_count : List ℕ → (len : ℕ) → ℕ
+acked_count acked len = count_by (λ a. nat_le len a) acked
 
--- the led length: the greatest that a quorum has acked
-pub record IsLed (quorum : ℕ) (acked : List ℕ) (len : ℕ) : Type 0 where
-  pub quorum_has : quorum ≤ reached acked len
-  pub greatest : (more : ℕ) → quorum ≤ reached acked more → more ≤ len
+-- the acknowledged length: the greatest that a quorum has acked
+pub record IsAcknowledged (quorum : ℕ) (acked : List ℕ) (len : ℕ) : Type 0 where
+  pub quorum_has : quorum ≤ acked_count acked len
+  pub greatest : (more : ℕ) → quorum ≤ acked_count acked more → more ≤ len

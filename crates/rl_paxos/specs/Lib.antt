@@ -1,4 +1,5 @@
 pub mod Acceptors
+pub mod Laws
 pub mod Leaders
 pub mod Logs
 pub mod Quorums

@@ -18,8 +18,10 @@ pub record Candidate : Type 0 where
   pub need : ℕ
   pub promises : List Promise
 
+-- a candidate to whom no node has promised
 abbrev pub new_candidate : (epoch nodes streams need : ℕ) → Candidate
-new_candidate epoch nodes streams need = record { epoch = epoch; nodes = nodes; streams = streams; need = need; promises = [] }
+new_candidate epoch nodes streams need =
+    record { epoch = epoch; nodes = nodes; streams = streams; need = need; promises = [] }
 
 -- it has one ballot and one log for each stream
 abbrev pub HasStreams : (streams : ℕ) → Promise → Type 0
@@ -29,13 +31,18 @@ HasStreams streams p = (length p.ballots ≡ streams) × (length p.logs ≡ stre
 abbrev pub has_promised : List Promise → (node : ℕ) → Bool
 has_promised promises node = list_any (λ p. p.node == node) promises
 
--- after a promise: each node counts once, and its later ones are passed over
-abbrev pub counts : Candidate → Promise → Candidate
-counts c p = if is_node c.nodes p.node && not (has_promised c.promises p.node) then record c { promises = c.promises ++ p ∷ [] } else c
+-- after a promise: each node counts once, and its later ones are skipped
+abbrev pub with_promise : Candidate → Promise → Candidate
+with_promise c p =
+    if is_node c.nodes p.node && not (has_promised c.promises p.node)
+    then record c { promises = c.promises ++ p ∷ [] }
+    else c
 
+-- the ballot with which a node promised on a stream
 abbrev pub promised_ballot : (s : ℕ) → Promise → ℕ
 promised_ballot s p = slice_index p.ballots (s - 1)
 
+-- and the log
 abbrev pub promised_log : (s : ℕ) → Promise → Log
 promised_log s p = slice_index_or p.logs (s - 1) []
 
@@ -63,5 +70,7 @@ pub record IsRecovered (promises : List Promise) (s : ℕ) (log : Log) : Type 0 
   pub promised : Contains promises from
   pub log_is : promised_log s from ≡ log
   pub highest : (p : Promise) → Contains promises p → promised_ballot s p ≤ promised_ballot s from
-  pub longest : (p : Promise) → Contains promises p → promised_ballot s p ≡ promised_ballot s from → length (promised_log s p) ≤ length log
-  pub least : (p : Promise) → Contains promises p → promised_ballot s p ≡ promised_ballot s from → length (promised_log s p) ≡ length log → from.node ≤ p.node
+  pub longest : (p : Promise) → Contains promises p → promised_ballot s p ≡ promised_ballot s from
+      → length (promised_log s p) ≤ length log
+  pub least : (p : Promise) → Contains promises p → promised_ballot s p ≡ promised_ballot s from
+      → length (promised_log s p) ≡ length log → from.node ≤ p.node

@@ -1,2 +1,2 @@
 pub mod Resends
-pub mod Fits
+pub mod StreamFits

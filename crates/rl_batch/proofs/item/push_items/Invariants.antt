@@ -1,6 +1,6 @@
 use Rattle.std.proofs.Common.{◌≡◌, ◌++◌, take, All}
 use Rattle.std.specs.List.{flat_map}
-use Rattle.rl_batch.specs.Spelling.{item_bytes}
+use Rattle.rl_batch.specs.Encoding.{item_bytes}
 use Rattle.rl_batch.specs.Ranges.{ItemHasWords}
 use Rattle.rl_batch.proofs.item.push_items.Given as goal
 

@@ -1,6 +1,6 @@
 use Rattle.std.proofs.Common.{◌≡◌, ◌++◌, take, All}
 use Rattle.std.specs.List.{flat_map}
-use Rattle.rl_batch.specs.Spelling.{write_bytes}
+use Rattle.rl_batch.specs.Encoding.{write_bytes}
 use Rattle.rl_batch.specs.Ranges.{WriteHasWords}
 use Rattle.rl_batch.proofs.write.push_writes.Given as goal
 

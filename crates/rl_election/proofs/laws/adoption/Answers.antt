@@ -1,27 +1,30 @@
 use Rattle.std.proofs.Common.{◌-◌, refl}
-use Rattle.rl_paxos.specs.Acceptors.{Acceptor, ballot_of, log_of}
-use Rattle.rl_election.specs.World.{World, opening, after}
-use Rattle.rl_election.proofs.Inv.{Inv, InLed, first_at, log_at}
-use Rattle.rl_election.proofs.Steps.{after_inv, opening_inv}
+use Rattle.rl_paxos.specs.Acceptors.{kept_ballot, kept_log}
+use Rattle.rl_election.specs.StreamEvents.{streams_after}
+use Rattle.rl_election.specs.Laws.{AtNode, world_at, acceptor_at, ballot_at, log_at}
+use Rattle.rl_election.proofs.Inv as inv
+use Rattle.rl_election.proofs.Inv.{Inv, InLeaderLog, initial_at}
+use Rattle.rl_election.proofs.Steps.{events_inv, initial_inv}
 use Rattle.rl_election.proofs.laws.adoption.Goals as goal
 
+-- what holds between events holds of the world at a node's moment
+inv_at : (x : AtNode) → Inv x.cluster (world_at x)
+inv_at x = events_inv x.cluster x.events _ (initial_inv x.cluster)
+
 pub returns-clause-adopted : goal.returns-clause-adopted
-returns-clause-adopted c = λ g events a s there above.
-    let w : World = after g (opening g) events in
-    let inv : Inv g w = after_inv g events (opening g) (opening_inv g) in
-    let x : Acceptor = (w.node a).acceptor in
-    let led : InLed w (ballot_of x s) (s - 1) (log_of x s) = ((inv.node_ok a).kept (s - 1)).has above in
+returns-clause-adopted c = λ x there above.
+    let led : InLeaderLog (world_at x) (ballot_at x) (x.stream - 1) (log_at x) = (((inv_at x).node_ok x.node).kept (x.stream - 1)).has above in
     record {
-      first = first_at led.term (s - 1);
-      log = log_at led.term (s - 1);
-      is_first = record { term = led.term; led = led.led; first_is = refl };
-      is_log = record { term = led.term; led = led.led; log_is = refl };
+      initial = initial_at led.term (x.stream - 1);
+      log = inv.log_at led.term (x.stream - 1);
+      is_initial = record { term = led.term; term_is = led.term_is; initial_is = refl };
+      is_log = record { term = led.term; term_is = led.term_is; log_is = refl };
       begins = led.begins;
       within = led.within;
     }
 
 pub returns-clause-none : goal.returns-clause-none
-returns-clause-none c = λ g events a s zero. (((after_inv g events (opening g) (opening_inv g)).node_ok a).kept (s - 1)).none zero
+returns-clause-none c = λ x zero. (((inv_at x).node_ok x.node).kept (x.stream - 1)).none zero
 
 pub returns-clause-below : goal.returns-clause-below
-returns-clause-below c = λ g events a s. (((after_inv g events (opening g) (opening_inv g)).node_ok a).kept (s - 1)).below
+returns-clause-below c = λ x. (((inv_at x).node_ok x.node).kept (x.stream - 1)).below

@@ -4,7 +4,7 @@ use Rattle.std.specs.List.{flat_map, zip}
 use Rattle.std.proofs.lemmas.Slice.Zip.{length-zip}
 use Rattle.byteorder.specs.Endian.{big_bytes}
 use Rattle.rl_fields.proofs.Appends.{appended, appended_more}
-use Rattle.rl_msg.specs.Spelling.{log_bytes, stream_bytes}
+use Rattle.rl_msg.specs.Encoding.{log_bytes, stream_bytes}
 use Rattle.rl_msg.proofs.Zips.{zip-at}
 use Rattle.rl_msg.proofs.log.push_streams.Goals as goal
 

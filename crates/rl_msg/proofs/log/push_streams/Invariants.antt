@@ -1,6 +1,6 @@
 use Rattle.std.proofs.Common.{◌≡◌, ◌++◌, take}
 use Rattle.std.specs.List.{flat_map, zip}
-use Rattle.rl_msg.specs.Spelling.{stream_bytes}
+use Rattle.rl_msg.specs.Encoding.{stream_bytes}
 use Rattle.rl_msg.proofs.log.push_streams.Given as goal
 
 abbrev pub invariant-loop-i : goal.invariant-loop-i

@@ -1,0 +1,242 @@
+-- What a leader with_promise as led was acked by a second quorum.
+use Rattle.std.proofs.Common.{◌≡◌, ◌≢◌, ◌⊎◌, ℕ, zero, suc, ◌+◌, ◌-◌, ◌<◌, ◌≤◌, max, List, [], ◌∷◌, ◌++◌, length, map, get_or, set, take, replicate, cond, Bool, true, false, ◌&&◌, ◌==◌, nat_le, if◌then◌else◌, Option, Some, None, refl, sym, ap, ◌∙◌, arith, inl, inr, eqb-true, eq-eqb, get_or-set_same, get_or-set_other, length-set, le-leb}
+use Rattle.std.proofs.Math.Seq.{take-suc}
+use Rattle.std.proofs.lemmas.Bool.{cases_eq, cases_lt, and_parts, cond_both, or_cases, or_left, or_right, leb-true, lt-leb}
+use Rattle.std.proofs.lemmas.List.{length-map, get_or-map, length-replicate}
+use Rattle.std.proofs.lemmas.List.Sums.{sum_by-append}
+use Rattle.std.specs.Prelude.{slice_get}
+use Rattle.rl_paxos.specs.declared.refused.Refused.{Refused}
+use Rattle.rl_paxos.specs.Acceptors.{refuses, refuses_accept}
+use Rattle.rl_paxos.specs.Leaders.{Leading, new_leading, with_ack, proposed, acked_count}
+use Rattle.rl_paxos.specs.Logs.{Batch, Log}
+use Rattle.rl_paxos.specs.Quorums.{is_node, count, is_quorum}
+use Rattle.rl_paxos.specs.Recovery.{Promise, Candidate, with_promise, recovered_logs}
+use Rattle.rl_paxos.proofs.Counting.{is_node_low, is_node_high}
+use Rattle.rl_paxos.proofs.Members.{In, in_front}
+use Rattle.rl_election.specs.World.{Cluster, Message, Prepare, Promised, Sync, Accept, Ack, Envelope, Role, Follows, Stands, Leads, Node, Term, StreamWorld, initial_streams, is_up, is_stream, no_stream, stream_of, with_stream}
+use Rattle.rl_election.specs.StreamEvents.{StreamEvent, Elect, Deliver, Propose, Crash, Return, Lose, acts, unless_refused, may_stand, initial_logs, leads, stands_or_leads, receives_promise, counts_ack, receives_ack, receives, delivers, proposes_in, proposes, after_stream_event, after_stream_events, updated}
+use Rattle.rl_election.specs.Chosen.{acks_at_least, has_acked, is_chosen_len}
+use Rattle.rl_election.proofs.Agree.{Acked, acked_in}
+use Rattle.rl_election.proofs.Inv.{WasSent, Inv}
+use Rattle.rl_election.proofs.Stays.{Stays, stays, more_count}
+use Rattle.rl_election.proofs.Steps.{event_inv}
+use Rattle.rl_election.proofs.Updates.{by_updated, index_of, get_in, length-recovered}
+
+-- each length that is counted for a node was acked by it
+pub record Counted (g : Cluster) (w : StreamWorld) (e s : ℕ) (x : Leading) : Type 0 where
+  pub quorum : x.quorum ≡ g.second_quorum
+  pub sized : length x.acked ≡ g.nodes
+  pub acks : (b : ℕ) → (get_or x.acked b 0 ≡ 0) ⊎ Acked w e s (get_or x.acked b 0) (suc b)
+
+abbrev pub AllCounted : Cluster → StreamWorld → Type 0
+AllCounted g w = (e : ℕ) (t : Term) → w.terms e ≡ Some t → (s : ℕ) → is_stream g s ≡ true → Counted g w e s (stream_of t s)
+
+-- what was acked stays acked
+acked_stays : (w v : StreamWorld) → Stays w v → (e s len a : ℕ) → Acked w e s len a → Acked v e s len a
+acked_stays w v st e s len a k = record {
+  longer = k.longer;
+  sent = (k.sent.0, rw (← st.sent.1) (in_front w.sent st.sent.0 _ k.sent.1));
+  reaches = k.reaches;
+}
+
+counted_stays : (g : Cluster) (w v : StreamWorld) → Stays w v → (e s : ℕ) (x : Leading) → Counted g w e s x → Counted g v e s x
+counted_stays g w v st e s x k = record {
+  quorum = k.quorum;
+  sized = k.sized;
+  acks = λ b. elim (k.acks b) [ inl z ↦ inl z | inr q ↦ inr (acked_stays w v st e s (get_or x.acked b 0) (suc b) q) ];
+}
+
+get_zero : (n b : ℕ) → ◌≡◌ {A = ℕ} (get_or (replicate n 0) b 0) 0
+get_zero zero b = refl
+get_zero (suc n) zero = refl
+get_zero (suc n) (suc b) = get_zero n b
+
+-- a leader begins with nothing counted
+begun : (g : Cluster) (w : StreamWorld) (e s f : ℕ) (log : Log) → Counted g w e s (new_leading f g.nodes g.second_quorum log)
+begun g w e s f log = record { quorum = refl; sized = length-replicate g.nodes 0; acks = λ b. inl (get_zero g.nodes b) }
+
+-- an ack that was sent is counted
+counts_one : (g : Cluster) (w : StreamWorld) (e s from len : ℕ) (x : Leading) → WasSent w from (Ack e s len) → Counted g w e s x → Counted g w e s (with_ack x from len)
+counts_one g w e s from len x sent k = cond_both (is_node (length x.acked) from) (record x { acked = set x.acked (from - 1) (max (get_or x.acked (from - 1) 0) len) }) x (λ z. Counted g w e s z)
+    (λ t. let low : 1 ≤ from = is_node_low (length x.acked) from t in
+    let high : from ≤ length x.acked = is_node_high (length x.acked) from t in
+    let inside : from - 1 < length x.acked = omega arith in
+    let at : suc (from - 1) ≡ from = omega arith in
+    let old : ℕ = get_or x.acked (from - 1) 0 in
+    let has : Acked w e s len from = record { longer = len; sent = sent; reaches = omega arith } in
+    record {
+      quorum = k.quorum;
+      sized = length-set x.acked (from - 1) (max old len) ∙ k.sized;
+      acks = λ b. elim (cases_eq b (from - 1)) [
+        | inl q ↦ rw (q, get_or-set_same x.acked (from - 1) (max old len) 0 inside, at) (elim (cases_lt old len) [
+          | inl l ↦ (let m : max old len ≡ len = omega arith in rw m (inr has))
+          | inr l ↦ (let m : max old len ≡ old = omega arith in let o : (old ≡ 0) ⊎ Acked w e s old from = rw at at (k.acks (from - 1)) in rw m o)
+        ])
+        | inr m ↦ rw (get_or-set_other x.acked (from - 1) b (max old len) 0 m) (k.acks b)
+      ];
+    })
+    (λ t. k)
+
+module _ (g : Cluster) (w : StreamWorld) (inv : Inv g w) (all : AllCounted g w) where
+  -- no term changes
+  same_terms : (v : StreamWorld) → Stays w v → ((e : ℕ) → v.terms e ≡ w.terms e) → AllCounted g v
+  same_terms v st same e t is s there = counted_stays g w v st e s (stream_of t s) (all e t (sym (same e) ∙ is) s there)
+
+  -- the term of an epoch is another
+  one_term : (v : StreamWorld) → Stays w v → (e : ℕ) (u : Term) → ((f : ℕ) → v.terms f ≡ updated w.terms e (Some u) f) → ((s : ℕ) → is_stream g s ≡ true → Counted g v e s (stream_of u s)) → AllCounted g v
+  one_term v st e u terms new f t is s there =
+      by_updated (λ z. z ≡ Some t → Counted g v f s (stream_of t s)) w.terms e (Some u) f
+      (λ here q. let same : u ≡ t = (let k : Some u ≡ Some t = q in cc) in rw (here, ← same) (new s there))
+      (λ m q. counted_stays g w v st f s (stream_of t s) (all f t q s there))
+      (sym (terms f) ∙ is)
+
+  -- a stream of the term is another
+  one_stream : (v : StreamWorld) → Stays w v → (e r : ℕ) (t : Term) → w.terms e ≡ Some t → is_stream g r ≡ true → (x : Leading) → Counted g v e r x → (s : ℕ) → is_stream g s ≡ true → Counted g v e s (stream_of (with_stream t r x) s)
+  one_stream v st e r t is at x new s there =
+      let inside : r - 1 < length t.streams = omega (arith, index_of g r at, (inv.term_ok e t is).sized) in
+      elim (cases_eq s r) [
+        | inl q ↦ rw (q, get_or-set_same t.streams (r - 1) x no_stream inside) new
+        | inr m ↦ (
+            let apart : s - 1 ≢ r - 1 = omega (arith, m, initial_log s there, initial_log r at) in
+            rw (get_or-set_other t.streams (r - 1) (s - 1) x no_stream apart) (counted_stays g w v st e s (stream_of t s) (all e t is s there)))
+      ]
+    where
+      initial_log : (s : ℕ) → is_stream g s ≡ true → 1 ≤ s
+      initial_log s h = leb-true 1 s (and_parts (nat_le 1 s) (nat_le s g.streams) h).0
+
+  led : (a : ℕ) (c : Candidate) → Stays w (leads g w a c) → AllCounted g (leads g w a c)
+  led a c st = one_term (leads g w a c) st c.epoch _ (λ f. refl) (λ s there.
+      let logs : List Log = initial_logs g c in
+      let size : length logs ≡ g.streams = length-map (recovered_logs c.promises g.streams) (λ log. log ++ g.open_mark c.epoch ∷ []) ∙ length-recovered c.promises g.streams in
+      let is : get_or (map (new_leading c.epoch g.nodes g.second_quorum) logs) (s - 1) no_stream ≡ new_leading c.epoch g.nodes g.second_quorum (get_or logs (s - 1) []) = get_or-map (new_leading c.epoch g.nodes g.second_quorum) logs (s - 1) [] no_stream (omega (arith, index_of g s there, size)) in
+      rw is (begun g (leads g w a c) c.epoch s c.epoch (get_or logs (s - 1) [])))
+
+  by_test : (b : Bool) (u v : StreamWorld) → (Stays w u → AllCounted g u) → (Stays w v → AllCounted g v) → Stays w (if b then u else v) → AllCounted g (if b then u else v)
+  by_test true u v f h st = f st
+  by_test false u v f h st = h st
+
+  heard : (a e : ℕ) (p : Promise) (r : Role) → Stays w (receives_promise g w a e p r) → AllCounted g (receives_promise g w a e p r)
+  heard a e p Follows st = all
+  heard a e p (Leads f) st = all
+  heard a e p (Stands c) st = by_test (c.epoch == e) (stands_or_leads g w a (with_promise c p)) w
+      (λ st2. by_test (nat_le (with_promise c p).need (length (with_promise c p).promises)) (leads g w a (with_promise c p)) (acts w a (record (w.node a) { role = Stands (with_promise c p) }) [])
+      (λ st3. led a (with_promise c p) st3)
+      (λ st3. same_terms (acts w a (record (w.node a) { role = Stands (with_promise c p) }) []) st3 (λ f. refl)) st2)
+      (λ st2. all) st
+
+  acked_on : (e s from len : ℕ) → is_stream g s ≡ true → WasSent w from (Ack e s len) → (o : Option Term) → w.terms e ≡ o → Stays w (counts_ack w e s from len o) → AllCounted g (counts_ack w e s from len o)
+  acked_on e s from len there sent None is st = all
+  acked_on e s from len there sent (Some t) is st =
+      let v : StreamWorld = counts_ack w e s from len (Some t) in
+      one_term v st e (with_stream t s (with_ack (stream_of t s) from len)) (λ f. refl)
+      (one_stream v st e s t is there (with_ack (stream_of t s) from len) (counts_one g v e s from len (stream_of t s) sent (counted_stays g w v st e s (stream_of t s) (all e t is s there))))
+
+  ack_heard : (e s from len : ℕ) → WasSent w from (Ack e s len) → (r : Role) → Stays w (receives_ack g w e s from len r) → AllCounted g (receives_ack g w e s from len r)
+  ack_heard e s from len sent Follows st = all
+  ack_heard e s from len sent (Stands c) st = all
+  ack_heard e s from len sent (Leads f) st = on ((f == e) && is_stream g s) refl st
+    where
+      on : (b : Bool) → ((f == e) && is_stream g s) ≡ b → Stays w (if b then counts_ack w e s from len (w.terms e) else w) → AllCounted g (if b then counts_ack w e s from len (w.terms e) else w)
+      on true t st2 = acked_on e s from len (and_parts (f == e) (is_stream g s) t).1 sent (w.terms e) refl st2
+      on false t st2 = all
+
+  proposed_on : (a e s : ℕ) (batch : Batch) → is_stream g s ≡ true → (o : Option Term) → w.terms e ≡ o → Stays w (proposes_in g w a e s batch o) → AllCounted g (proposes_in g w a e s batch o)
+  proposed_on a e s batch there None is st = all
+  proposed_on a e s batch there (Some t) is st =
+      let v : StreamWorld = proposes_in g w a e s batch (Some t) in
+      let old : Counted g v e s (stream_of t s) = counted_stays g w v st e s (stream_of t s) (all e t is s there) in
+      one_term v st e (with_stream t s (proposed (stream_of t s) batch)) (λ f. refl)
+      (one_stream v st e s t is there (proposed (stream_of t s) batch) (record { quorum = old.quorum; sized = old.sized; acks = old.acks }))
+
+  proposal : (a s : ℕ) (batch : Batch) (r : Role) → Stays w (proposes g w a s batch r) → AllCounted g (proposes g w a s batch r)
+  proposal a s batch Follows st = all
+  proposal a s batch (Stands c) st = all
+  proposal a s batch (Leads e) st = on (is_up (w.node a).state && is_stream g s) refl st
+    where
+      on : (b : Bool) → (is_up (w.node a).state && is_stream g s) ≡ b → Stays w (if b then proposes_in g w a e s batch (w.terms e) else w) → AllCounted g (if b then proposes_in g w a e s batch (w.terms e) else w)
+      on true t st2 = proposed_on a e s batch (and_parts (is_up (w.node a).state) (is_stream g s) t).1 (w.terms e) refl st2
+      on false t st2 = all
+
+  unless_counted : (o : Option Refused) (v : StreamWorld) → (Stays w v → AllCounted g v) → Stays w (unless_refused o v w) → AllCounted g (unless_refused o v w)
+  unless_counted None v h st = h st
+  unless_counted (Some r) v h st = all
+
+  did : (a : ℕ) (x : Node) (ms : List Envelope) → Stays w (acts w a x ms) → AllCounted g (acts w a x ms)
+  did a x ms st = same_terms (acts w a x ms) st (λ f. refl)
+
+  received : (a from : ℕ) (message : Message) → WasSent w from message → Stays w (receives g w a from message) → AllCounted g (receives g w a from message)
+  received a from (Prepare e) sent st = unless_counted (refuses (w.node a).acceptor e) _ (did a _ _) st
+  received a from (Promised e ballots logs) sent st = heard a e (record { node = from; ballots = ballots; logs = logs }) (w.node a).role st
+  received a from (Sync e s log) sent st = by_test (is_stream g s) _ w (unless_counted (refuses (w.node a).acceptor e) _ (did a _ _)) (λ st2. all) st
+  received a from (Accept e s slot batch) sent st = by_test (is_stream g s) _ w (unless_counted (refuses_accept (w.node a).acceptor e s slot) _ (did a _ _)) (λ st2. all) st
+  received a from (Ack e s len) sent st = ack_heard e s from len sent (w.node a).role st
+
+  deliveries : (o : Option Envelope) → ((m : Envelope) → o ≡ Some m → In m w.sent) → Stays w (delivers g w o) → AllCounted g (delivers g w o)
+  deliveries None h st = all
+  deliveries (Some m) h st = by_test (is_up (w.node m.to).state) (receives g w m.to m.from m.message) w (received m.to m.from m.message (m.to, h m refl)) (λ st2. all) st
+
+  pub counted : (x : StreamEvent) → Stays w (after_stream_event g w x) → AllCounted g (after_stream_event g w x)
+  counted (Elect a e) st = by_test (may_stand g (w.node a) a e) _ w (did a _ _) (λ st2. all) st
+  counted (Deliver number) st = deliveries (slice_get w.sent number) (λ m e. get_in w.sent number m e) st
+  counted (Propose a s batch) st = proposal a s batch (w.node a).role st
+  counted (Crash a) st = did a _ [] st
+  counted (Return a) st = did a _ [] st
+  counted (Lose a) st = did a _ [] st
+
+pub events_counted : (g : Cluster) (xs : List StreamEvent) (w : StreamWorld) → Inv g w → AllCounted g w → AllCounted g (after_stream_events g w xs)
+events_counted g [] w inv all = all
+events_counted g (x ∷ xs) w inv all = events_counted g xs (after_stream_event g w x) (event_inv g w inv x) (counted g w inv all x (stays g w inv x))
+
+pub initial_counted : (g : Cluster) → AllCounted g (initial_streams g)
+initial_counted g e t is s there = absurd (let q : None ≡ Some t = is in cc)
+
+-- ---- a length that a quorum acked_count was acked by a second quorum ----
+
+-- a sent ack passes the test
+acked_passes : (ms : List Envelope) (e s len a : ℕ) (longer to : ℕ) → In (record { from = a; to = to; message = Ack e s longer }) ms → len ≤ longer → has_acked ms e s len a ≡ true
+acked_passes [] e s len a longer to i h = absurd i
+acked_passes (m ∷ ms) e s len a longer to i h = elim i [
+  | inl q ↦ or_left ((m.from == a) && acks_at_least e s len m.message) (has_acked ms e s len a) (rw (← q, eq-eqb a a refl, eq-eqb e e refl, eq-eqb s s refl, le-leb len longer h) refl)
+  | inr j ↦ or_right ((m.from == a) && acks_at_least e s len m.message) (has_acked ms e s len a) (acked_passes ms e s len a longer to j h)
+]
+
+-- counted along the list, or by number
+reached_count : (xs : List ℕ) (f : ℕ → Bool) (len n : ℕ) → n ≤ length xs → ((b : ℕ) → b < n → len ≤ get_or xs b 0 → f (suc b) ≡ true) → acked_count (take n xs) len ≤ count f n
+reached_count xs f len zero short each = omega arith
+reached_count xs f len (suc n) short each =
+    let front : acked_count (take n xs) len ≤ count f n = reached_count xs f len n (omega arith) (λ b l u. each b (omega arith) u) in
+    let split : take (suc n) xs ≡ take n xs ++ get_or xs n 0 ∷ [] = take-suc xs n 0 (omega arith) in
+    let sum : acked_count (take n xs ++ get_or xs n 0 ∷ []) len ≡ acked_count (take n xs) len + (0 + cond (nat_le len (get_or xs n 0)) 1 0) = sum_by-append (λ a. cond (nat_le len a) 1 0) (take n xs) (get_or xs n 0 ∷ []) in
+    elim (cases_lt (get_or xs n 0) len) [
+      | inl l ↦ (let z : cond (nat_le len (get_or xs n 0)) 1 0 ≡ (let o : ℕ = 0 in o) = rw (lt-leb len (get_or xs n 0) l) refl in rw split (omega (arith, sum, z, front)))
+      | inr l ↦ (let z : cond (nat_le len (get_or xs n 0)) 1 0 ≡ (let o : ℕ = 1 in o) = rw (le-leb len (get_or xs n 0) l) refl in rw (split, each n (omega arith) l) (omega (arith, sum, z, front)))
+    ]
+
+take_all : (xs : List ℕ) → take (length xs) xs ≡ xs
+take_all [] = refl
+take_all (x ∷ xs) = ap (λ z. x ∷ z) (take_all xs)
+
+pub acknowledged_chosen : (g : Cluster) (w : StreamWorld) (e s len : ℕ) (x : Leading) → Counted g w e s x → x.quorum ≤ acked_count x.acked len → is_chosen_len g w e s len ≡ true
+acknowledged_chosen g w e s len x k has = elim (cases_eq len 0) [
+  | inl z ↦ or_left (len == 0) (is_quorum g.second_quorum g.nodes (has_acked w.sent e s len)) (eq-eqb len 0 z)
+  | inr m ↦ or_right (len == 0) (is_quorum g.second_quorum g.nodes (has_acked w.sent e s len)) (le-leb g.second_quorum (count (has_acked w.sent e s len) g.nodes) (
+      let up : acked_count (take (length x.acked) x.acked) len ≤ count (has_acked w.sent e s len) (length x.acked) = reached_count x.acked (has_acked w.sent e s len) len (length x.acked) (omega arith)
+      (λ b l u. elim (k.acks b) [
+        | inl z ↦ absurd (omega (arith, z, u, m))
+        | inr q ↦ acked_passes w.sent e s len (suc b) q.longer q.sent.0 q.sent.1 (omega (arith, u, q.reaches))
+      ]) in
+      let up2 : acked_count x.acked len ≤ count (has_acked w.sent e s len) (length x.acked) = rw (take_all x.acked) at up in
+      let up3 : acked_count x.acked len ≤ count (has_acked w.sent e s len) g.nodes = rw k.sized at up2 in
+      omega (arith, has, up3, k.quorum)))
+]
+
+-- a shorter length was acked too
+less_acked : (ms : List Envelope) (e s len less a : ℕ) → less ≤ len → has_acked ms e s len a ≡ true → has_acked ms e s less a ≡ true
+less_acked ms e s len less a h k = let q = acked_in ms e s len a k in acked_passes ms e s less a q.0 q.1 q.2 (omega (arith, h, q.3))
+
+pub less_chosen : (g : Cluster) (w : StreamWorld) (e s len less : ℕ) → less ≤ len → is_chosen_len g w e s len ≡ true → is_chosen_len g w e s less ≡ true
+less_chosen g w e s len less h k = elim (or_cases (len == 0) (is_quorum g.second_quorum g.nodes (has_acked w.sent e s len)) k) [
+  | inl t ↦ or_left (less == 0) (is_quorum g.second_quorum g.nodes (has_acked w.sent e s less)) (eq-eqb less 0 (let z : len ≡ 0 = eqb-true len 0 t in omega arith))
+  | inr t ↦ or_right (less == 0) (is_quorum g.second_quorum g.nodes (has_acked w.sent e s less)) (le-leb g.second_quorum (count (has_acked w.sent e s less) g.nodes)
+      (omega (arith, leb-true g.second_quorum (count (has_acked w.sent e s len) g.nodes) t, more_count (has_acked w.sent e s len) (has_acked w.sent e s less) g.nodes (λ a q. less_acked w.sent e s len less a h q))))
+]
