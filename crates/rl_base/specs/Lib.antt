@@ -1,4 +1,5 @@
 pub mod Epochs
+pub mod Laws
 pub mod Lists
 pub mod Numbers
 pub mod Order

@@ -1,4 +1,4 @@
--- The order of stamps, in which every commit has its place (Silo's transaction identifiers, Rolis's timestamps).
+-- The order of stamps, and so of all commits (Silo's transaction identifiers, Rolis's timestamps).
 use Rattle.std.specs.Prelude.{◌≡◌, ◌⊎◌, ◌<◌, Bool, ◌&&◌, ◌||◌, ◌==◌, nat_lt}
 use Rattle.rl_base.specs.declared.stamp.Stamp.{Stamp}
 

@@ -18,7 +18,8 @@ pub fn next_epoch(promised: u32, node: u32, nodes: u32) -> Option<u32>
     requires last { node ≤ nodes }
     ensures least { IfSome result (λ epoch. IsNextEpoch promised node nodes epoch) }
     ensures fits { IfSome result (λ epoch. epoch < 2 ^ 20) }
-    ensures none { IfNone result ((epoch : ℕ) → promised < epoch → owner_of epoch nodes ≡ node → 2 ^ 20 ≤ epoch) }
+    ensures none { IfNone result
+        ((epoch : ℕ) → promised < epoch → owner_of epoch nodes ≡ node → 2 ^ 20 ≤ epoch) }
 {
     let epoch = u64::from(promised) + u64::from(steps_ahead(promised, node, nodes)) + 1;
     if epoch < 1 << 20 {

@@ -1,6 +1,6 @@
 //! What is wrong with bytes that should be a batch or a message.
 
-/// Why some bytes are no spelling.
+/// Why some bytes are no encoding.
 #[derive(Clone, Copy, Debug, PartialEq, Eq)]
 pub enum Flaw {
     /// The first byte stands for no kind.

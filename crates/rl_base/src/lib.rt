@@ -11,6 +11,4 @@ pub mod memory;
 pub mod refusal;
 pub mod slices;
 pub mod stamp;
-#[cfg(test)]
-mod tests;
 pub mod word;

@@ -103,7 +103,7 @@ impl<T: Drop> Seq<T> {
         self.items.pop()
     }
 
-    /// Puts another element in the place of one, and answers that one.
+    /// Replaces one of its elements, and answers the old one.
     pub fn replace(&mut self, i: usize, x: T) -> T
         requires { i < length self.old }
         ensures set { self.new ≡ slice_set self.old i x }

@@ -1,4 +1,4 @@
-//! Stamps, in which every commit gets its place in the serial order.
+//! Stamps, which put all commits in their serial order.
 
 ghost use Rattle.std.specs.Prelude.{◌≡◌, ◌<◌, ◌^◌};
 ghost use Rattle.rl_base.specs.Order.{is_below};

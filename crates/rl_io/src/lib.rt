@@ -8,5 +8,3 @@ pub mod slices;
 pub mod source;
 pub mod standard_sink;
 pub mod standard_source;
-#[cfg(test)]
-mod tests;

@@ -30,7 +30,14 @@ impl Model for MemSink {
 
     ghost Value = { SinkState };
 
-    ghost view = { λ s. record { held = s.held.items; chunk = s.chunk; room = s.room; fails = s.fails; calls = s.calls; faults = s.faults } };
+    ghost view = { λ s. record {
+      held = s.held.items;
+      chunk = s.chunk;
+      room = s.room;
+      fails = s.fails;
+      calls = s.calls;
+      faults = s.faults;
+    } };
 
     ghost invariant = { λ s. (vec_len s.held + s.room ≤ vec_capacity s.held) × (0 < s.chunk) };
 }
@@ -39,7 +46,14 @@ impl MemSink {
     /// An empty sink with room for `room` bytes. `Memory` where there is none for them.
     pub fn new(alloc: Global, chunk: usize, room: usize, fails: Fails) -> Result<MemSink, Memory>
         requires { 0 < chunk }
-        ensures { IfOk result (λ sink. sink ≡ record { held = []; chunk = chunk; room = room; fails = fails; calls = 0; faults = 0 }) }
+        ensures { IfOk result (λ sink. sink ≡ record {
+          held = [];
+          chunk = chunk;
+          room = room;
+          fails = fails;
+          calls = 0;
+          faults = 0;
+        }) }
     {
         Ok(MemSink {
             held: Vec::with_capacity(alloc, room)?,
@@ -70,16 +84,24 @@ impl Sink for MemSink {
     fn write(&mut self, piece: &[u8]) -> Result<usize, Failed>
         ensures within { IfOk result (λ n. n ≤ length piece.now) }
         ensures some { 0 < length piece.now → result ≢ Ok 0 }
-        ensures taken { IfOk result (λ n. Some self.new.held ≡ append_known (Some self.old.held) (take n piece.now)) }
+        ensures taken { IfOk result
+            (λ n. Some self.new.held ≡ append_known (Some self.old.held) (take n piece.now)) }
         ensures kept { OnErr result (Some self.new.held ≡ Some self.old.held) }
         ensures fault { OnErr result (Rose self.old.faults self.new.faults) }
         ensures counted { self.old.faults ≤ self.new.faults }
 
         // beyond what every sink says
-        ensures fails { IsErr result ↔ (Contains self.old.fails (one_more self.old.calls) ⊎ (self.old.room ≡ 0)) }
-        ensures count { IfOk result (λ n. n ≡ min (min (length piece.now) self.old.chunk) self.old.room) }
-        ensures took { IfOk result (λ n. self.new ≡ record self.old { held = self.old.held ++ take n piece.now; room = self.old.room - n; calls = one_more self.old.calls }) }
-        ensures failed { OnErr result (self.new ≡ record self.old { calls = one_more self.old.calls; faults = one_more self.old.faults }) }
+        ensures fails { IsErr result
+            ↔ (Contains self.old.fails (one_more self.old.calls) ⊎ (self.old.room ≡ 0)) }
+        ensures count { IfOk result
+            (λ n. n ≡ min (min (length piece.now) self.old.chunk) self.old.room) }
+        ensures took { IfOk result (λ n. self.new ≡ record self.old {
+          held = self.old.held ++ take n piece.now;
+          room = self.old.room - n;
+          calls = one_more self.old.calls;
+        }) }
+        ensures failed { OnErr result (self.new ≡
+            record self.old { calls = one_more self.old.calls; faults = one_more self.old.faults }) }
     {
         self.calls = self.calls.saturating_add(1);
         if self.room == 0 || self.fails.contains(self.calls) {

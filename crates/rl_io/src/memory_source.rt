@@ -5,7 +5,7 @@ ghost use Rattle.std.specs.Io.KnownBytes.{prepend_known};
 ghost use Rattle.rl_io.specs.Faults.{one_more, Rose};
 ghost use Rattle.rl_io.specs.Memory.{SourceState};
 
-use crate::slices::copy_front;
+use crate::slices::copy_prefix;
 use crate::source::{Failed, Source};
 use rl_base::list::{Bytes, Fails};
 use rl_base::slices::rest_from;
@@ -29,7 +29,13 @@ impl Model for MemSource {
 
     ghost Value = { SourceState };
 
-    ghost view = { λ s. record { left = drop s.at s.bytes; chunk = s.chunk; fails = s.fails; calls = s.calls; faults = s.faults } };
+    ghost view = { λ s. record {
+      left = drop s.at s.bytes;
+      chunk = s.chunk;
+      fails = s.fails;
+      calls = s.calls;
+      faults = s.faults;
+    } };
 
     ghost invariant = { λ s. (s.at ≤ length s.bytes) × (0 < s.chunk) };
 }
@@ -38,7 +44,8 @@ impl MemSource {
     /// A source of these bytes, of which nothing is read yet.
     pub fn new(bytes: Bytes, chunk: usize, fails: Fails) -> MemSource
         requires { 0 < chunk }
-        ensures { result ≡ record { left = bytes; chunk = chunk; fails = fails; calls = 0; faults = 0 } }
+        ensures { result ≡
+            record { left = bytes; chunk = chunk; fails = fails; calls = 0; faults = 0 } }
     {
         MemSource {
             bytes,
@@ -61,7 +68,8 @@ impl Source for MemSource {
     /// Gives the least of what is left, `chunk` and the buffer's length.
     fn read(&mut self, buf: &mut [u8]) -> Result<usize, Failed>
         ensures within { IfOk result (λ n. n ≤ length buf.new) }
-        ensures given { IfOk result (λ n. Some self.old.left ≡ prepend_known (take n buf.new) (Some self.new.left)) }
+        ensures given { IfOk result
+            (λ n. Some self.old.left ≡ prepend_known (take n buf.new) (Some self.new.left)) }
         ensures end { result ≡ Ok 0 → 0 < length buf.new → self.old.left ≡ [] }
         ensures kept { OnErr result (Some self.new.left ≡ Some self.old.left) }
         ensures fault { OnErr result (Rose self.old.faults self.new.faults) }
@@ -69,9 +77,12 @@ impl Source for MemSource {
 
         // beyond what every source says
         ensures fails { IsErr result ↔ Contains self.old.fails (one_more self.old.calls) }
-        ensures count { IfOk result (λ n. n ≡ min (min (length self.old.left) self.old.chunk) (length buf.new)) }
-        ensures gave { IfOk result (λ n. self.new ≡ record self.old { left = drop n self.old.left; calls = one_more self.old.calls }) }
-        ensures failed { OnErr result (self.new ≡ record self.old { calls = one_more self.old.calls; faults = one_more self.old.faults }) }
+        ensures count { IfOk result
+            (λ n. n ≡ min (min (length self.old.left) self.old.chunk) (length buf.new)) }
+        ensures gave { IfOk result (λ n. self.new ≡
+            record self.old { left = drop n self.old.left; calls = one_more self.old.calls }) }
+        ensures failed { OnErr result (self.new ≡
+            record self.old { calls = one_more self.old.calls; faults = one_more self.old.faults }) }
     {
         self.calls = self.calls.saturating_add(1);
         if self.fails.contains(self.calls) {
@@ -80,7 +91,7 @@ impl Source for MemSource {
         }
         let left = self.bytes.as_slice().len() - self.at;
         let count = left.min(self.chunk).min(buf.len());
-        copy_front(buf, rest_from(self.bytes.as_slice(), self.at), count);
+        copy_prefix(buf, rest_from(self.bytes.as_slice(), self.at), count);
         self.at += count;
         Ok(count)
     }

@@ -15,12 +15,13 @@ pub trait Sink {
     /// The bytes that it holds, where it tells them.
     ghost held: { Self → Option (List ℕ) };
 
-    /// Takes a front of the piece, and answers its length: at least one byte of a piece that has
+    /// Takes a prefix of the piece, and answers its length: at least one byte of a piece that has
     /// any. After `Failed` it holds what it held.
     fn write(&mut self, piece: &[u8]) -> Result<usize, Failed>
         ensures within { IfOk result (λ n. n ≤ length piece.now) }
         ensures some { 0 < length piece.now → result ≢ Ok 0 }
-        ensures taken { IfOk result (λ n. held self.new ≡ append_known (held self.old) (take n piece.now)) }
+        ensures taken { IfOk result
+            (λ n. held self.new ≡ append_known (held self.old) (take n piece.now)) }
         ensures kept { OnErr result (held self.new ≡ held self.old) }
         ensures fault { OnErr result (Rose (faults self.old) (faults self.new)) }
         ensures counted { faults self.old ≤ faults self.new };
@@ -32,11 +33,12 @@ pub struct WriteFault;
 
 /// Writes all the bytes: each write is handed all that are still to go.
 ///
-/// `WriteFault` comes only where a write failed; a front of the bytes is written then.
+/// `WriteFault` comes only where a write failed; a prefix of the bytes is written then.
 #[tactic(auto, using(crate::proofs::Held::held_more))]
 pub fn write_whole<K: Sink>(sink: &mut K, bytes: &[u8]) -> Result<(), WriteFault>
     ensures all { OnOk result (K.held sink.new ≡ append_known (K.held sink.old) bytes.now) }
-    ensures front { OnErr result ((n : ℕ) × (K.held sink.new ≡ append_known (K.held sink.old) (take n bytes.now))) }
+    ensures prefix { OnErr result
+        ((n : ℕ) × (K.held sink.new ≡ append_known (K.held sink.old) (take n bytes.now))) }
     ensures fault { OnErr result (Rose (K.faults sink.old) (K.faults sink.new)) }
     ensures counted { K.faults sink.old ≤ K.faults sink.new }
 {

@@ -21,12 +21,15 @@ pub trait Source {
     /// The bytes still to come, where the source tells them.
     ghost left: { Self → Option (List ℕ) };
 
-    /// Puts the next bytes at the front of the buffer, and answers how many. No byte for a buffer
-    /// that has room is the end of the input. After `Failed` the bytes still to come are the same.
+    /// Puts the next bytes into the buffer, from its first on, and answers how many. No byte for a
+    /// buffer that has room is the end of the input. After `Failed` the bytes still to come are the
+    /// same.
     fn read(&mut self, buf: &mut [u8]) -> Result<usize, Failed>
         ensures within { IfOk result (λ n. n ≤ length buf.new) }
-        ensures given { IfOk result (λ n. left self.old ≡ prepend_known (take n buf.new) (left self.new)) }
-        ensures end { result ≡ Ok 0 → 0 < length buf.new → IfSome (left self.old) (λ left. left ≡ []) }
+        ensures given { IfOk result
+            (λ n. left self.old ≡ prepend_known (take n buf.new) (left self.new)) }
+        ensures end { result ≡ Ok 0 → 0 < length buf.new
+            → IfSome (left self.old) (λ left. left ≡ []) }
         ensures kept { OnErr result (left self.new ≡ left self.old) }
         ensures fault { OnErr result (Rose (faults self.old) (faults self.new)) }
         ensures counted { faults self.old ≤ faults self.new };
@@ -63,10 +66,13 @@ impl From<Memory> for ReadError {
 /// came. After an error some of the bytes are gone.
 pub fn read_all<S: Source>(alloc: Global, source: &mut S, limit: usize) -> Result<Bytes, ReadError>
     ensures within { IfOk result (λ bytes. length bytes ≤ limit) }
-    ensures all { IfOk result (λ bytes. IfSome (S.left source.old) (λ left. (bytes ≡ left) × (S.left source.new ≡ Some []))) }
-    ensures too_long { IsErrOf result (ReadError.TooLong limit) → IfSome (S.left source.old) (λ left. limit < length left) }
+    ensures all { IfOk result (λ bytes. IfSome (S.left source.old)
+        (λ left. (bytes ≡ left) × (S.left source.new ≡ Some []))) }
+    ensures too_long { IsErrOf result (ReadError.TooLong limit)
+        → IfSome (S.left source.old) (λ left. limit < length left) }
     ensures the_limit { (n : ℕ) → IsErrOf result (ReadError.TooLong n) → n ≡ limit }
-    ensures fault { IsErrOf result ReadError.ReadFault → Rose (S.faults source.old) (S.faults source.new) }
+    ensures fault { IsErrOf result ReadError.ReadFault
+        → Rose (S.faults source.old) (S.faults source.new) }
     ensures counted { S.faults source.old ≤ S.faults source.new }
 {
     let mut bytes = Bytes::new(alloc);

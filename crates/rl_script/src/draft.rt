@@ -17,7 +17,7 @@ use crate::operation::{read_op, table_for};
 use crate::requests::{MOST_REQUESTS, RequestLists};
 use crate::schedule::Schedule;
 use crate::settings::{SettingWord, Settings};
-use rl_base::limit::LimitName;
+use rl_base::limit::{LimitName, RECORDS, TABLES};
 use rl_base::memory::Memory;
 use rl_events::kind::Kind;
 use rl_events::line::{EventWord, read_event};
@@ -27,7 +27,7 @@ use rl_txn::op::Txn;
 use rl_value::map::Map;
 use rl_value::name::is_name;
 use rl_value::row::Row;
-use rl_value::schema::{DeclareError, MOST_RECORDS, MOST_TABLES, Schema};
+use rl_value::schema::{DeclareError, Schema};
 use std::alloc::Global;
 
 /// How many ops a transaction may have.
@@ -131,10 +131,10 @@ impl Draft {
             Ok(_) => Ok(()),
             Err(DeclareError::DuplicateTable) => Err(Kind::Duplicate.into()),
             Err(DeclareError::TooManyTables) => {
-                Err(LineError::limit(LimitName::Tables, MOST_TABLES as u32))
+                Err(LineError::limit(LimitName::Tables, TABLES))
             }
             Err(DeclareError::TooManyRecords) => {
-                Err(LineError::limit(LimitName::Records, MOST_RECORDS))
+                Err(LineError::limit(LimitName::Records, RECORDS))
             }
             Err(DeclareError::Memory) => Err(LineError::Memory),
         }

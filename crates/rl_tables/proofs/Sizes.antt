@@ -4,6 +4,7 @@ use Rattle.std.proofs.lemmas.Bool.Decides.{nat_tests}
 use Rattle.std.proofs.lemmas.List.{take_more, length-map}
 use Rattle.std.proofs.lemmas.List.Sums.{sum-map, sum_by_more_le}
 use Rattle.std.proofs.Math.Seq.{drop-cons}
+use Rattle.rl_base.specs.declared.limit.TheConstants.{RECORDS, TABLES}
 use Rattle.rl_value.specs.Tables.{Table, IsSchema, size_of}
 use Rattle.rl_tables.specs.Numbers.{sizes_of, place_from}
 
@@ -24,8 +25,8 @@ sizes_more tables t size within is =
 
 -- the sizes of a schema's tables keep its limits
 pub record Few (sizes : List ℕ) : Type 0 where
-  pub tables : length sizes ≤ 16
-  pub records : sum sizes ≤ 65536
+  pub tables : length sizes ≤ TABLES
+  pub records : sum sizes ≤ RECORDS
 
 pub sizes_few : (tables : List Table) → IsSchema tables → Few (sizes_of tables)
 sizes_few tables ok = record {

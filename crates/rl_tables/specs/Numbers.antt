@@ -1,4 +1,5 @@
--- Records are numbered table by table, by rising key: one order of all records, as Silo locks them in.
+-- Records are numbered table by table, by rising key: one order of all records, as Silo locks them
+-- in.
 use Rattle.std.specs.Prelude.{◌≡◌, ℕ, ◌+◌, ◌-◌, ◌<◌, List, [], ◌∷◌, length, map, sum, take, slice_index, nat_lt, if◌then◌else◌}
 use Rattle.rl_value.specs.Tables.{Table}
 
@@ -10,7 +11,7 @@ sizes_of tables = map (λ t. t.size) tables
 abbrev pub record_of : List ℕ → ℕ → ℕ → ℕ
 record_of sizes t k = sum (take t sizes) + k
 
--- a record's place from a table on, where the tables before it are passed
+-- a record's place from a table on, where the tables before it are skipped
 abbrev pub place_from : ℕ → List ℕ → ℕ → ℕ × ℕ
 place_from t [] rec = (t, rec)
 place_from t (size ∷ sizes) rec = if nat_lt rec size then (t, rec) else place_from (t + 1) sizes (rec - size)

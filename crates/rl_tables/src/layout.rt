@@ -4,6 +4,7 @@ ghost use Rattle.std.specs.Prelude.{◌≡◌, ℕ, ◌+◌, ◌<◌, ◌≤◌,
 ghost use Rattle.rl_value.specs.Tables.{record_count};
 ghost use Rattle.rl_tables.specs.Numbers.{sizes_of, record_of, place_of, IsPlace};
 
+use rl_base::limit::RECORDS;
 use rl_base::memory::Memory;
 use rl_value::schema::Schema;
 use std::alloc::Global;
@@ -33,12 +34,13 @@ pub struct Layout {
 
 impl Model for Layout {
     ghost use Rattle.std.specs.Prelude.{List, ℕ, length, sum, ◌≤◌};
+    ghost use Rattle.rl_base.specs.declared.limit.TheConstants.{RECORDS, TABLES};
 
     ghost Value = { List ℕ };
 
     ghost view = { λ l. l.sizes.items };
 
-    ghost invariant = { λ l. (length l.sizes.items ≤ 16) × (sum l.sizes.items ≤ 65536) };
+    ghost invariant = { λ l. (length l.sizes.items ≤ TABLES) × (sum l.sizes.items ≤ RECORDS) };
 }
 
 impl Layout {
@@ -83,7 +85,7 @@ impl Layout {
         requires key { k < slice_index self.now t }
         ensures number { result ≡ record_of self.now t k }
         ensures there { result < sum self.now }
-        ensures few { result < 65536 }
+        ensures few { result < RECORDS }
     {
         self.before(t) + k
     }
@@ -94,7 +96,7 @@ impl Layout {
         requires { t < length self.now }
         ensures first { result ≡ record_of self.now t 0 }
         ensures rest { result + slice_index self.now t ≤ sum self.now }
-        ensures few { sum self.now ≤ 65536 }
+        ensures few { sum self.now ≤ RECORDS }
     {
         total(&self.sizes[..t as usize])
     }
@@ -120,7 +122,7 @@ impl Layout {
     /// How many records there are.
     pub fn count(&self) -> u32
         ensures count { result ≡ sum self.now }
-        ensures few { result ≤ 65536 }
+        ensures few { result ≤ RECORDS }
     {
         self.sizes.iter().sum()
     }
@@ -128,38 +130,8 @@ impl Layout {
 
 /// The sum of some sizes.
 fn total(sizes: &[u32]) -> u32
-    requires { sum sizes.now ≤ 65536 }
+    requires { sum sizes.now ≤ RECORDS }
     ensures { result ≡ sum sizes.now }
 {
     sizes.iter().sum()
-}
-
-#[cfg(test)]
-mod tests {
-    use super::*;
-    use std::test::Fail;
-
-    #[test]
-    fn numbers_table_by_table(rt: HostRuntime) -> Result<(), Fail> {
-        let mut schema = Schema::new(rt.alloc());
-        schema.declare(rt.alloc(), "a", 3, 1)?;
-        schema.declare(rt.alloc(), "b", 300, 4)?;
-        let layout = Layout::new(rt.alloc(), &schema)?;
-        assert_eq!(rt; layout.count(), 303);
-        let all = Records { first: 0, count: 3 };
-        assert_eq!(rt; layout.range(0, 0, 3), Ok(all));
-        assert_eq!(rt; layout.range(0, 1, 3), Err(KeyOutOfRange { size: 3 }));
-        let last = Records {
-            first: 302,
-            count: 1,
-        };
-        assert_eq!(rt; layout.range(1, 299, 1), Ok(last));
-        assert_eq!(rt;
-            layout.range(1, u64::MAX, 1),
-            Err(KeyOutOfRange { size: 300 })
-        );
-        assert!(rt; layout.place(2) == (0, 2));
-        assert!(rt; layout.place(3) == (1, 0));
-        Ok(())
-    }
 }

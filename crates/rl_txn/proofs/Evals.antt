@@ -9,11 +9,10 @@ use Rattle.std.proofs.Math.ListN.{drop_of_length-le}
 use Rattle.std.proofs.lemmas.List.Sums.{sum_by-cons, sum_by-take-drop}
 use Rattle.rl_value.specs.Rows.{Rows, place_cmp}
 use Rattle.rl_value.specs.Tables.{Table, size_of}
-use Rattle.rl_txn.specs.Run.{Overlay, row_seen, column_of, only_if, with_reg, value_of, op_done, passes, ops_done, beginning, run}
-use Rattle.rl_txn.specs.Eval.{rows_of, HasRows, is_new, unknown, places, places_read, reads_at_most, read_by, progress_of, UsesRoom, wants, known, IsOnWay, AreKnown, AllKnown, IsNext, IsAsked, IsEval}
+use Rattle.rl_txn.specs.Run.{Overlay, Progress, row_seen, column_of, only_if, with_reg, value_of, op_done, passes, ops_done, beginning, run}
+use Rattle.rl_txn.specs.Eval.{rows_of, HasRows, is_new, unknown, places, places_read, reads_at_most, read_by, progress_of, wants, known, IsOnWay, AreKnown, IsNext, IsAsked, IsEval}
 use Rattle.rl_txn.specs.declared.op.Op.{Op}
 use Rattle.rl_txn.specs.declared.op.Op.TheVariants.{Set, Add, Sub, Mul, Get, Has, Put, Del, Scan, Need, Skip, Out}
-use Rattle.rl_txn.specs.declared.progress.Progress.{Progress}
 use Rattle.rl_txn.specs.declared.workspace.Workspace.{Workspace}
 use Rattle.rl_txn.specs.declared.eval.Eval.{Eval}
 use Rattle.rl_txn.specs.declared.eval.Wants.{Wants}
@@ -28,21 +27,11 @@ use Rattle.std.specs.declared.cmp.Ordering.{Ordering}
 use Rattle.std.specs.declared.cmp.Ordering.TheVariants.{Less, Equal, Greater}
 use Rattle.rl_txn.specs.Fits.{OpFits, TxnFits}
 use Rattle.rl_txn.specs.Run.{writes_of}
-use Rattle.rl_txn.specs.Eval.{StandsAt}
-use Rattle.rl_txn.proofs.RowSets.{places_total}
+use Rattle.rl_txn.specs.Eval.{StandsAt, HasRoom}
+use Rattle.rl_txn.specs.Steps.{UsesRoom, AllKnown}
+use Rattle.rl_base.proofs.Tests.{by_bool, both, neither, or_false, and_true, and_false, is_equal}
+use Rattle.rl_value.proofs.PlacesLemmas.{places_total}
 use Rattle.rl_txn.proofs.Known.{get_rows_of}
-
--- the two ways of a test
-by_bool : (P : Bool → Type 0) (b : Bool) → (b ≡ true → P true) → (b ≡ false → P false) → P b
-by_bool P true t f = t refl
-by_bool P false t f = f refl
-
-neither : (a b : Bool) → (a || b) ≡ false → (a ≡ false) × (b ≡ false)
-neither true b h = absurd (false≢true (sym h))
-neither false b h = (refl, h)
-
-or_false : (a b : Bool) → a ≡ false → b ≡ false → (a || b) ≡ false
-or_false a b h k = rw h k
 
 any_append : {X : Type 0} (p : X → Bool) (xs ys : List X) → list_any p xs ≡ false → list_any p ys ≡ false → list_any p (xs ++ ys) ≡ false
 any_append p [] ys h k = k
@@ -112,6 +101,21 @@ op_same tables read rows has (Need a rel b) p h = refl
 op_same tables read rows has (Skip a rel b n) p h = refl
 op_same tables read rows has (Out a) p h = refl
 
+-- what was scanned and what was read leave as much room together
+room_still : (txn : List Op) (e : Eval) (scanned : ℕ) (read : Overlay × ℕ) (wants : Option Wants) → HasRoom txn e
+    → e.scanned + e.work.read.1 ≤ scanned + read.1
+    → HasRoom txn (record e { work = record e.work { read = read }; scanned = scanned; wants = wants })
+room_still txn e scanned read wants room more = record {
+  done = room.done;
+  outs = room.outs;
+  outs_room = room.outs_room;
+  writes = room.writes;
+  writes_room = room.writes_room;
+  empty = room.empty;
+  finish = room.finish;
+  reads = omega (arith, room.reads, more);
+}
+
 -- ---- from one op to the next ----
 reads_jump : (tables : List Table) (rows : Rows) (k : ℕ) (ops : List Op) (p : Progress) → read_by tables rows k ops p ≡ read_by tables rows 0 (drop k ops) p
 unfolding read_by
@@ -175,10 +179,6 @@ filter_known read written (q ∷ xs) h =
     let rest = filter_known read written xs n.1 in
     by_bool (λ b. (is_new read q && b) ≡ false → list_any (is_new read) (cond b (q ∷ filter (is_new written) xs) (filter (is_new written) xs)) ≡ false) (is_new written q)
     (λ e u. or_false (is_new read q) _ (and_true (is_new read q) u) rest) (λ e u. rest) n.0
-  where
-    and_true : (b : Bool) → (b && true) ≡ false → b ≡ false
-    and_true true u = u
-    and_true false u = refl
 
 module _ (tables : List Table) (txn : List Op) where
   -- the ops before the next one, where the one at hand was done
@@ -312,12 +312,8 @@ find_at : (read written : Overlay) (rest : List (ℕ × ℕ)) (t f n s : ℕ) �
 find_at read written rest t f zero s l h u = absurd (omega arith)
 find_at read written rest t f (suc n) zero l h u =
     let e : f + 0 ≡ f = omega arith in
-    let both : (is_new read (t, f) ≡ true) × (is_new written (t, f) ≡ true) = two (is_new read (t, f)) (is_new written (t, f)) (rw e at u) in
-    rw (both.1, both.0) (ap (λ k. Some (t, k)) (sym e))
-  where
-    two : (a b : Bool) → (a && b) ≡ true → (a ≡ true) × (b ≡ true)
-    two true b h = (refl, h)
-    two false b h = absurd (false≢true h)
+    let new : (is_new read (t, f) ≡ true) × (is_new written (t, f) ≡ true) = both (is_new read (t, f)) (is_new written (t, f)) (rw e at u) in
+    rw (new.1, new.0) (ap (λ k. Some (t, k)) (sym e))
 find_at read written rest t f (suc n) (suc s) l h u =
     let e : f + 0 ≡ f = omega arith in
     let e2 : f + suc s ≡ f + 1 + s = omega arith in
@@ -326,10 +322,6 @@ find_at read written rest t f (suc n) (suc s) l h u =
     (λ w r. rw (and_true (is_new read (t, f)) r) (later ∙ ap (λ k. Some (t, k)) (sym e2)))
     (λ w r. later ∙ ap (λ k. Some (t, k)) (sym e2))
     (rw e at (h 0 (omega arith)))
-  where
-    and_true : (b : Bool) → (b && true) ≡ false → b ≡ false
-    and_true true u = u
-    and_true false u = refl
 
 module _ (tables : List Table) (txn : List Op) where
   -- more of the keys at hand are known
@@ -349,16 +341,7 @@ module _ (tables : List Table) (txn : List Op) where
         way = λ rows has. let w = ev.way rows has in record { before = w.before; reads = w.reads; given = w.given; run = w.run };
         known = subst (λ z. AreKnown tables z (record e { scanned = s })) (sym at) (omega arith, rw are now);
         asked = rw none tt;
-        room = record {
-          done = ev.room.done;
-          outs = ev.room.outs;
-          outs_room = ev.room.outs_room;
-          writes = ev.room.writes;
-          writes_room = ev.room.writes_room;
-          empty = ev.room.empty;
-          finish = ev.room.finish;
-          reads = omega (arith, ev.room.reads);
-        };
+        room = room_still txn e s e.work.read e.wants ev.room (omega arith);
       }
     where
       below_or : (a b : ℕ) → (a < b) ⊎ (b ≤ a)
@@ -412,16 +395,7 @@ with_wants tables txn e w ev so = record {
   way = λ rows has. let v = ev.way rows has in record { before = v.before; reads = v.reads; given = v.given; run = v.run };
   known = known_of (drop e.done txn) ev.known;
   asked = asked_of w so;
-  room = record {
-    done = ev.room.done;
-    outs = ev.room.outs;
-    outs_room = ev.room.outs_room;
-    writes = ev.room.writes;
-    writes_room = ev.room.writes_room;
-    empty = ev.room.empty;
-    finish = ev.room.finish;
-    reads = ev.room.reads;
-  };
+  room = room_still txn e e.scanned e.work.read w ev.room (omega arith);
 }
   where
     known_of : (ops : List Op) → AreKnown tables ops e → AreKnown tables ops (record e { wants = w })
@@ -480,10 +454,6 @@ get_rest [] (suc i) x ys e = absurd (cc)
 get_rest (y ∷ xs) zero x ys e = (omega arith, cc)
 get_rest (y ∷ xs) (suc i) x ys e = let n = get_rest xs i x ys e in (omega (arith, n.0), n.1)
 
-first_new : (a b : Bool) → (a && b) ≡ true → a ≡ true
-first_new true b h = refl
-first_new false b h = absurd (false≢true h)
-
 -- what the evaluation stands at, once it has answered
 pub stands : (tables : List Table) (txn : List Op) (e : Eval) (w : Wants) → TxnFits tables txn → IsEval tables txn e → IsAsked tables txn e (Some w) → StandsAt (record e { wants = Some w }) w
 stands tables txn e (Ended end) fits ev so = record { asked = tt; empty = ev.room.empty; room = omega (arith, ev.room.writes, ev.room.done, ev.room.finish) }
@@ -497,7 +467,7 @@ stands tables txn e (Read t k) fits ev so = go (drop e.done txn) refl so.1
         let less : e.scanned < reads_at_most op = read_within tables op (progress_of e.work) e.scanned (t, k) h in
         let total = sum_by-take-drop reads_at_most txn e.done in
         let here : sum_by reads_at_most (drop e.done txn) ≡ reads_at_most op + sum_by reads_at_most ops = ap (sum_by reads_at_most) at ∙ sum_by-cons reads_at_most op ops in
-        (record { asked = tt; fresh = first_new (is_new e.work.read.0 (t, k)) (is_new e.work.written.0 (t, k)) so.0; room = omega (arith, ev.room.reads); few = omega (arith, few_reads tables op fit) }, refl)
+        (record { asked = tt; fresh = (both (is_new e.work.read.0 (t, k)) (is_new e.work.written.0 (t, k)) so.0).0; room = omega (arith, ev.room.reads); few = omega (arith, few_reads tables op fit) }, refl)
 
 -- ---- a row is given ----
 module _ (read : Overlay) (q : ℕ × ℕ) (row : Option (List ℕ)) where
@@ -520,13 +490,8 @@ module _ (read : Overlay) (q : ℕ × ℕ) (row : Option (List ℕ)) where
   had_rows none rows has x = by_bool (λ b. eq_by_cmp place_cmp x q ≡ b → IfSome (finite.get read x) (λ r. finite.get rows x ≡ r)) (eq_by_cmp place_cmp x q)
       (λ e f. rw (tied_none x f) tt) (λ e f. subst (λ o. IfSome o (λ r. finite.get rows x ≡ r)) (get_given x ∙ ap (λ b. cond b (Some row) (finite.get read x)) f) (has x)) refl
     where
-      equal : (o : Ordering) → is_eq o ≡ true → o ≡ Equal
-      equal Less e = absurd (false≢true e)
-      equal Equal e = refl
-      equal Greater e = absurd (false≢true e)
-
       tied_none : (x : ℕ × ℕ) → eq_by_cmp place_cmp x q ≡ true → finite.get read x ≡ None
-      tied_none x e = sym (finite.get_tied places_total read x q (equal (place_cmp x q) e)) ∙ none
+      tied_none x e = sym (finite.get_tied places_total read x q (is_equal (place_cmp x q) e)) ∙ none
 
   any_still : (xs : List (ℕ × ℕ)) → list_any (is_new read) xs ≡ false → list_any (is_new (finite.insert read q row)) xs ≡ false
   any_still [] h = refl
@@ -535,14 +500,20 @@ module _ (read : Overlay) (q : ℕ × ℕ) (row : Option (List ℕ)) where
   known_still : (written : Overlay) (x : ℕ × ℕ) → unknown read written x ≡ false → unknown (finite.insert read q row) written x ≡ false
   known_still written x h = by_bool (λ b. is_new read x ≡ b → (is_new (finite.insert read q row) x && is_new written x) ≡ false) (is_new read x)
       (λ e f. let w : is_new written x ≡ false = rw f at h in rw w (and_false (is_new (finite.insert read q row) x))) (λ e f. rw (still_read x f) refl) refl
-    where
-      and_false : (b : Bool) → (b && false) ≡ false
-      and_false true = refl
-      and_false false = refl
 
   any_known : (written : Overlay) (xs : List (ℕ × ℕ)) → list_any (unknown read written) xs ≡ false → list_any (unknown (finite.insert read q row) written) xs ≡ false
   any_known written [] h = refl
   any_known written (x ∷ xs) h = let n = neither (unknown read written x) (list_any (unknown read written) xs) h in or_false _ _ (known_still written x n.0) (any_known written xs n.1)
+
+  -- rows that have what was read have it still, where their row at a place was given
+  pub have_given : (rows : Rows) → row ≡ finite.get rows q → HasRows read rows → HasRows (finite.insert read q row) rows
+  have_given rows is has x = subst (λ o. IfSome o (λ r. finite.get rows x ≡ r)) (sym (get_given x))
+      (by_bool (λ b. eq_by_cmp place_cmp x q ≡ b → IfSome (cond b (Some row) (finite.get read x)) (λ r. finite.get rows x ≡ r)) (eq_by_cmp place_cmp x q)
+      (λ e f. sym (finite.get_tied places_total rows x q (is_equal (place_cmp x q) f)) ∙ sym is) (λ e f. has x) refl)
+
+-- rows have what was read where nothing was
+pub have_none : (rows : Rows) → HasRows finite.empty rows
+have_none rows q = subst (λ o. IfSome o (λ row. finite.get rows q ≡ row)) (sym (finite.get-empty place_cmp q)) tt
 
 take_get : {X : Type 0} (xs : List X) (i : ℕ) (x : X) → slice_get xs i ≡ Some x → take (i + 1) xs ≡ take i xs ++ x ∷ []
 take_get [] i x e = absurd (cc)
@@ -558,23 +529,14 @@ pub gave : (tables : List Table) (txn : List Op) (e : Eval) (t k : ℕ) (row : O
     → IsEval tables txn (record e { work = record e.work { read = read }; scanned = e.scanned + 1; wants = None })
 gave tables txn e t k row read ev was is left =
     let so : (unknown e.work.read.0 e.work.written.0 (t, k) ≡ true) × IsNext tables (drop e.done txn) e (t, k) = subst (λ w. IsAsked tables txn e w) was ev.asked in
-    let none : finite.get e.work.read.0 (t, k) ≡ None = no_row (finite.get e.work.read.0 (t, k)) (first_new (is_new e.work.read.0 (t, k)) (is_new e.work.written.0 (t, k)) so.0) in
+    let none : finite.get e.work.read.0 (t, k) ≡ None = no_row (finite.get e.work.read.0 (t, k)) ((both (is_new e.work.read.0 (t, k)) (is_new e.work.written.0 (t, k)) so.0).0) in
     record {
       way = λ rows has.
           let v = ev.way rows (had_rows e.work.read.0 (t, k) row none rows (subst (λ r. HasRows r rows) is has)) in
           record { before = v.before; reads = v.reads; given = subst (λ r. list_any (is_new r) v.before ≡ false) (sym is) (any_still e.work.read.0 (t, k) row v.before v.given); run = v.run };
       known = go (drop e.done txn) ev.known so.1;
       asked = tt;
-      room = record {
-        done = ev.room.done;
-        outs = ev.room.outs;
-        outs_room = ev.room.outs_room;
-        writes = ev.room.writes;
-        writes_room = ev.room.writes_room;
-        empty = ev.room.empty;
-        finish = ev.room.finish;
-        reads = omega (arith, ev.room.reads);
-      };
+      room = room_still txn e (e.scanned + 1) read None ev.room (omega arith);
     }
   where
     go : (ops : List Op) → AreKnown tables ops e → IsNext tables ops e (t, k) → AreKnown tables ops (record e { work = record e.work { read = read }; scanned = e.scanned + 1; wants = None })

@@ -9,7 +9,7 @@ use Rattle.rl_value.specs.Rows.{Rows, place_cmp}
 use Rattle.rl_txn.specs.Run.{Overlay, row_seen}
 use Rattle.rl_txn.specs.Serial.{put_or_remove}
 use Rattle.rl_txn.specs.Eval.{rows_from, rows_of}
-use Rattle.rl_txn.proofs.RowSets.{places_total}
+use Rattle.rl_value.proofs.PlacesLemmas.{places_total}
 
 -- a row after a write, which makes it or takes it away
 pub get_after : (rows : Rows) (place : ℕ × ℕ) (row : Option (List ℕ)) (q : ℕ × ℕ) → finite.get (put_or_remove rows place row) q ≡ cond (eq_by_cmp place_cmp q place) row (finite.get rows q)

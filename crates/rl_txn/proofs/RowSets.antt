@@ -16,25 +16,11 @@ use Rattle.std.proofs.lemmas.List.{get_or_default}
 use Rattle.std.specs.FinMap as finite
 use Rattle.std.specs.FinMap.Entries.{put, find, is_sorted, below_all, is_sorted-put}
 use Rattle.rl_value.specs.Rows.{place_cmp}
+pub use Rattle.rl_value.proofs.PlacesLemmas.{places_total, same_place}
+use Rattle.rl_base.proofs.Tests.{first_T, second_T, is_less}
 use Rattle.rl_txn.specs.Run.{write_of}
 use Rattle.rl_txn.specs.declared.row_set.RowAt.{RowAt}
 use Rattle.rl_txn.specs.RowSets.{place_at, entry_of, IsInOrder, rows_at}
-
-pub places_total : IsTotalOrder place_cmp
-places_total = then_total (on_total (λ (p : ℕ × ℕ). p.0) nat_cmp_total) (on_total (λ (p : ℕ × ℕ). p.1) nat_cmp_total)
-
-first : (a b : Bool) → T (a && b) → T a
-first true b h = tt
-first false b h = h
-
-second : (a b : Bool) → T (a && b) → T b
-second true b h = h
-second false b h = absurd h
-
-less : (o : Ordering) → T (is_lt o) → o ≡ Less
-less Less h = refl
-less Equal h = absurd h
-less Greater h = absurd h
 
 turned : (p q : ℕ × ℕ) (o : Ordering) → place_cmp p q ≡ o → place_cmp q p ≡ ordering_reverse o
 turned p q o e = places_total.antisymm q p ∙ ap ordering_reverse e
@@ -42,19 +28,16 @@ turned p q o e = places_total.antisymm q p ∙ ap ordering_reverse e
 -- the first of rows in order is before each later one
 above_first : (p : ℕ × ℕ) (rows : List RowAt) (i : ℕ) (d : RowAt) → T (below_all place_cmp p (map entry_of rows)) → i < length rows → place_cmp p (place_at (get_or rows i d)) ≡ Less
 above_first p [] i d h l = absurd (omega arith)
-above_first p (r ∷ rows) zero d h l = less (place_cmp p (place_at r)) (first _ _ h)
-above_first p (r ∷ rows) (suc i) d h l = above_first p rows i d (second _ _ h) (omega arith)
+above_first p (r ∷ rows) zero d h l = is_less (place_cmp p (place_at r)) (first_T _ _ h)
+above_first p (r ∷ rows) (suc i) d h l = above_first p rows i d (second_T _ _ h) (omega arith)
 
 in_order : (rows : List RowAt) → IsInOrder rows → (k : ℕ) (d : RowAt) → 0 ≤ k → k + 1 < length rows → is_lt (place_cmp (place_at (get_or rows (k + 1) d)) (place_at (get_or rows k d))) ≡ false
 in_order [] h k d z l = absurd (omega arith)
-in_order (r ∷ rows) h zero d z l = ap is_lt (turned (place_at r) (place_at (get_or rows 0 d)) Less (above_first (place_at r) rows 0 d (first _ _ h) (omega arith)))
-in_order (r ∷ rows) h (suc k) d z l = rw next (in_order rows (second _ _ h) k d (omega arith) (omega arith))
+in_order (r ∷ rows) h zero d z l = ap is_lt (turned (place_at r) (place_at (get_or rows 0 d)) Less (above_first (place_at r) rows 0 d (first_T _ _ h) (omega arith)))
+in_order (r ∷ rows) h (suc k) d z l = rw next (in_order rows (second_T _ _ h) k d (omega arith) (omega arith))
   where
     next : suc k + 1 ≡ suc (k + 1)
     next = omega arith
-
-pub same_place : (p q : ℕ × ℕ) → place_cmp p q ≡ Equal → p ≡ q
-same_place p q e = exact_pairs nat_cmp nat_cmp exact_unsigned exact_unsigned p q e
 
 -- what a binary search answers
 pub searched : (rows : List RowAt) (q : ℕ × ℕ) (r : Result ℕ ℕ) → IsInOrder rows → IsBinarySearchResult (λ x. place_cmp (place_at x) q) rows r
@@ -96,8 +79,8 @@ module _ (q : ℕ × ℕ) where
       let here : place_cmp q (place_at r) ≡ Equal = ap (λ p. place_cmp q p) e ∙ tied_itself places_total q in
       rw here refl
   find_here (r ∷ rows) (suc i) x h l e =
-      let here : place_cmp q (place_at r) ≡ Greater = turned (place_at r) q Less (ap (place_cmp (place_at r)) (sym e) ∙ above_first (place_at r) rows i x (first _ _ h) (omega arith)) in
-      rw here (find_here rows i x (second _ _ h) (omega arith) e)
+      let here : place_cmp q (place_at r) ≡ Greater = turned (place_at r) q Less (ap (place_cmp (place_at r)) (sym e) ∙ above_first (place_at r) rows i x (first_T _ _ h) (omega arith)) in
+      rw here (find_here rows i x (second_T _ _ h) (omega arith) e)
 
   pub put_here : (rows : List RowAt) (i : ℕ) (x : RowAt) → place_at x ≡ q → IsInOrder rows → i < length rows → place_at (get_or rows i x) ≡ q → put place_cmp q x.row (map entry_of rows) ≡ map entry_of (set rows i x)
   put_here [] i x is h l e = absurd (omega arith)
@@ -105,8 +88,8 @@ module _ (q : ℕ × ℕ) where
       let here : place_cmp q (place_at r) ≡ Equal = ap (λ p. place_cmp q p) e ∙ tied_itself places_total q in
       rw here (ap (λ p. (p, x.row) ∷ map entry_of rows) (e ∙ sym is))
   put_here (r ∷ rows) (suc i) x is h l e =
-      let here : place_cmp q (place_at r) ≡ Greater = turned (place_at r) q Less (ap (place_cmp (place_at r)) (sym e) ∙ above_first (place_at r) rows i x (first _ _ h) (omega arith)) in
-      rw here (ap (λ es. entry_of r ∷ es) (put_here rows i x is (second _ _ h) (omega arith) e))
+      let here : place_cmp q (place_at r) ≡ Greater = turned (place_at r) q Less (ap (place_cmp (place_at r)) (sym e) ∙ above_first (place_at r) rows i x (first_T _ _ h) (omega arith)) in
+      rw here (ap (λ es. entry_of r ∷ es) (put_here rows i x is (second_T _ _ h) (omega arith) e))
 
 -- rows that `put` leaves stand for the map after an insert, in order
 pub after_put : (rows new : List RowAt) (q : ℕ × ℕ) (row : Option (List ℕ)) → IsInOrder rows → put place_cmp q row (map entry_of rows) ≡ map entry_of new

@@ -5,11 +5,10 @@ use Rattle.std.specs.List.{range_with_len, find, list_any}
 use Rattle.std.specs.FinMap as finite
 use Rattle.rl_value.specs.Rows.{Rows}
 use Rattle.rl_value.specs.Tables.{Table, size_of}
-use Rattle.rl_txn.specs.Run.{Overlay, value_of, op_done, passes, beginning, ops_done, run}
+use Rattle.rl_txn.specs.Run.{Overlay, Progress, value_of, op_done, passes, beginning, ops_done, run}
 use Rattle.rl_txn.specs.Serial.{put_or_remove}
 use Rattle.rl_txn.specs.declared.op.Op.{Op}
 use Rattle.rl_txn.specs.declared.op.Op.TheVariants.{Get, Has, Scan}
-use Rattle.rl_txn.specs.declared.progress.Progress.{Progress}
 use Rattle.rl_txn.specs.declared.workspace.Workspace.{Workspace}
 use Rattle.rl_txn.specs.declared.eval.Eval.{Eval}
 use Rattle.rl_txn.specs.declared.eval.Wants.{Wants}
@@ -41,12 +40,13 @@ is_new rows place = not (is_some (finite.get rows place))
 abbrev pub unknown : Overlay → Overlay → ℕ × ℕ → Bool
 unknown read written place = is_new read place && is_new written place
 
--- the places that the ops read and have not written before, in order (Silo's read set); the first few ops are passed over
-unfoldable pub read_by : List Table → Rows → ℕ → List Op → Progress → List (ℕ × ℕ)
-read_by tables rows passed [] p = []
+-- the places that the ops read and have not written before, in order (Silo's read set); the first
+-- few ops are skipped
+unfoldable pub read_by : List Table → Rows → (skipped : ℕ) → List Op → Progress → List (ℕ × ℕ)
+read_by tables rows skipped [] p = []
 read_by tables rows zero (op ∷ ops) p =
     filter (is_new p.written) (places_read tables op p) ++ option_map_or (λ next. read_by tables rows (passes op p) ops next) (op_done tables rows op p) []
-read_by tables rows (suc passed) (op ∷ ops) p = read_by tables rows passed ops p
+read_by tables rows (suc skipped) (op ∷ ops) p = read_by tables rows skipped ops p
 
 -- the rows that are present among some entries
 abbrev pub rows_from : List ((ℕ × ℕ) × Option (List ℕ)) → Rows
@@ -61,16 +61,9 @@ rows_of read = rows_from (finite.entries read)
 abbrev pub HasRows : Overlay → Rows → Type 0
 HasRows read rows = (place : ℕ × ℕ) → IfSome (finite.get read place) (λ row. finite.get rows place ≡ row)
 
+-- how far a workspace has come
 abbrev pub progress_of : Workspace → Progress
 progress_of w = record { regs = w.regs; outs = w.outs.items; written = w.written.0 }
-
--- an op reads nothing new into the workspace, and uses no more room than for one output and one write
-pub record UsesRoom (old new : Workspace) : Type 0 where
-  pub read : new.read ≡ old.read
-  pub capacity : vec_capacity new.outs ≡ vec_capacity old.outs
-  pub outs : length new.outs.items ≤ length old.outs.items + 1
-  pub room : old.written.1 ≤ new.written.1 + 1
-  pub writes : length (finite.entries new.written.0) ≤ length (finite.entries old.written.0) + 1
 
 -- the rows that an evaluation was given
 abbrev pub known : Eval → Overlay
@@ -81,15 +74,17 @@ abbrev pub reads_room : Eval → ℕ
 reads_room e = e.work.read.1
 
 -- a record that is wanted is that of a key of a table
-abbrev pub IsThere : List Table → Wants → Type 0
-IsThere tables (Read t k) = (t < length tables) × (k < size_of tables t)
-IsThere tables (Ended end) = Unit {0}
+abbrev pub WantsFit : List Table → Wants → Type 0
+WantsFit tables (Read t k) = (t < length tables) × (k < size_of tables t)
+WantsFit tables (Ended end) = Unit {0}
 
--- what a transaction wants next, given the rows that it has read: of the records that it reads on them, the first that it has not read yet; else its end
+-- what a transaction wants next, given the rows that it has read: of the records that it reads on
+-- them, the first that it has not read yet; else its end
 abbrev pub wants : List Table → List Op → Overlay → Wants
 wants tables txn read = option_map_or (λ q. Read q.0 q.1) (find (is_new read) (read_by tables (rows_of read) 0 txn beginning)) (Ended (run tables txn (rows_of read)).0.end)
 
--- an evaluation has done the ops before one, on any rows that have those given: all that they read was given
+-- an evaluation has done the ops before one, on any rows that have those given: all that they read
+-- was given
 pub record IsOnWay (tables : List Table) (txn : List Op) (rows : Rows) (e : Eval) : Type 0 where
   pub before : List (ℕ × ℕ)
   pub reads : read_by tables rows 0 txn beginning ≡ before ++ read_by tables rows 0 (drop e.done txn) (progress_of e.work)
@@ -101,11 +96,6 @@ abbrev pub AreKnown : List Table → List Op → Eval → Type 0
 AreKnown tables [] e = Unit {0}
 AreKnown tables (op ∷ ops) e =
     (e.scanned ≤ reads_at_most op) × (list_any (unknown e.work.read.0 e.work.written.0) (take e.scanned (places_read tables op (progress_of e.work))) ≡ false)
-
--- all of them are
-abbrev pub AllKnown : List Table → List Op → Eval → Type 0
-AllKnown tables [] e = Unit {0}
-AllKnown tables (op ∷ ops) e = list_any (unknown e.work.read.0 e.work.written.0) (places_read tables op (progress_of e.work)) ≡ false
 
 -- a place is the next that the op at hand reads
 abbrev pub IsNext : List Table → List Op → Eval → ℕ × ℕ → Type 0
@@ -136,20 +126,20 @@ pub record IsEval (tables : List Table) (txn : List Op) (e : Eval) : Type 0 wher
   pub asked : IsAsked tables txn e e.wants
   pub room : HasRoom txn e
 
+-- the last answer was a record that is wanted
 abbrev pub IsRead : Option Wants → Type 0
-IsRead None = ⊥
 IsRead (Some (Read t k)) = Unit {0}
-IsRead (Some (Ended end)) = ⊥
+IsRead asked = ⊥
 
+-- the last answer was the end
 abbrev pub IsEnd : Option Wants → Type 0
-IsEnd None = ⊥
-IsEnd (Some (Read t k)) = ⊥
 IsEnd (Some (Ended end)) = Unit {0}
+IsEnd asked = ⊥
 
+-- the place that was asked for last
 abbrev pub place_of_wants : Option Wants → ℕ × ℕ
-place_of_wants None = (0, 0)
 place_of_wants (Some (Read t k)) = (t, k)
-place_of_wants (Some (Ended end)) = (0, 0)
+place_of_wants asked = (0, 0)
 
 -- the place whose row an evaluation waits for
 abbrev pub awaited : Eval → ℕ × ℕ

@@ -3,3 +3,4 @@ pub mod Fits
 pub mod RowSets
 pub mod Run
 pub mod Serial
+pub mod Steps

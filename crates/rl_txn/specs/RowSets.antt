@@ -6,9 +6,11 @@ use Rattle.rl_value.specs.Rows.{place_cmp}
 use Rattle.rl_txn.specs.Run.{Overlay}
 use Rattle.rl_txn.specs.declared.row_set.RowAt.{RowAt}
 
+-- where a row is, or is not
 abbrev pub place_at : RowAt → ℕ × ℕ
 place_at r = (r.table, r.key)
 
+-- the row as the entry of a map
 abbrev pub entry_of : RowAt → (ℕ × ℕ) × Option (List ℕ)
 entry_of r = (place_at r, r.row)
 

@@ -1,5 +1,5 @@
 -- What a transaction does on the rows: its ops in order, with its own writes seen.
-use Rattle.std.specs.Prelude.{◌≡◌, ℕ, ◌+◌, ◌-◌, ◌*◌, ◌%◌, ◌^◌, Bool, true, false, not, List, [], ◌∷◌, ◌++◌, map, slice_index, slice_set, sum_by, ◌==◌, nat_lt, nat_le, is_some, Option, Some, None, if◌then◌else◌, replicate, zero, suc}
+use Rattle.std.specs.Prelude.{ℕ, ◌+◌, ◌-◌, ◌*◌, ◌%◌, ◌^◌, Bool, not, List, [], ◌∷◌, ◌++◌, map, slice_index, slice_set, sum_by, ◌==◌, nat_lt, nat_le, is_some, Option, Some, None, if◌then◌else◌, replicate, zero, suc}
 use Rattle.std.specs.Option.{option_map_or}
 use Rattle.std.specs.List.{range_with_len}
 use Rattle.std.specs.FinMap as finite
@@ -11,7 +11,6 @@ use Rattle.rl_txn.specs.declared.op.Rel.{Rel}
 use Rattle.rl_txn.specs.declared.op.Rel.TheVariants.{Eq, Ne, Lt, Le, Gt, Ge}
 use Rattle.rl_txn.specs.declared.op.Op.{Op}
 use Rattle.rl_txn.specs.declared.op.Op.TheVariants.{Set, Add, Sub, Mul, Get, Has, Put, Del, Scan, Need, Skip, Out}
-use Rattle.rl_txn.specs.declared.progress.Progress.{Progress}
 use Rattle.rl_txn.specs.declared.write.End.{End}
 use Rattle.rl_txn.specs.declared.write.End.TheVariants.{Done, Declined}
 use Rattle.rl_txn.specs.declared.write.Reply.{Reply}
@@ -21,16 +20,26 @@ use Rattle.rl_txn.specs.declared.write.Write.{Write}
 abbrev pub Overlay : Type 0
 Overlay = finite.FinMap place_cmp (Option (List ℕ))
 
+-- how far a transaction has come: its registers, its outputs, and what it has written
+pub record Progress : Type 0 where
+  pub regs : List ℕ
+  pub outs : List ℕ
+  pub written : Overlay
+
+-- what an operand stands for
 abbrev pub value_of : Progress → Operand → ℕ
 value_of p (Reg r) = slice_index p.regs r
 value_of p (Num n) = n
 
+-- a register becomes a number
 abbrev pub with_reg : Progress → ℕ → ℕ → Progress
 with_reg p d x = record p { regs = slice_set p.regs d x }
 
+-- a row, or its absence, is written at a key
 abbrev pub with_row : Progress → ℕ → ℕ → Option (List ℕ) → Progress
 with_row p t k row = record p { written = finite.insert p.written (t, k) row }
 
+-- whether two numbers are in a relation
 abbrev pub holds : Rel → ℕ → ℕ → Bool
 holds Eq a b = a == b
 holds Ne a b = not (a == b)
@@ -76,26 +85,29 @@ op_done tables rows (Need a rel b) p = only_if (holds rel (value_of p a) (value_
 op_done tables rows (Skip a rel b n) p = Some p
 op_done tables rows (Out a) p = Some (record p { outs = p.outs ++ value_of p a ∷ [] })
 
--- how many of the ops after it an op passes over
+-- how many of the ops after it an op skips
 abbrev pub passes : Op → Progress → ℕ
 passes (Skip a rel b n) p = if holds rel (value_of p a) (value_of p b) then n else 0
 passes op p = 0
 
--- the ops from the one of a number on, the first few of them passed over: what they leave, and how they end
+-- the ops from the one of a number on, the first few of them skipped: what they leave, and how they
+-- end
 unfoldable pub ops_done : List Table → Rows → ℕ → ℕ → List Op → Progress → Progress × End
-ops_done tables rows number passed [] p = (p, Done)
+ops_done tables rows number skipped [] p = (p, Done)
 ops_done tables rows number zero (op ∷ ops) p =
     option_map_or (λ next. ops_done tables rows (number + 1) (passes op p) ops next) (op_done tables rows op p) (p, Declined number)
-ops_done tables rows number (suc passed) (op ∷ ops) p = ops_done tables rows (number + 1) passed ops p
+ops_done tables rows number (suc skipped) (op ∷ ops) p = ops_done tables rows (number + 1) skipped ops p
 
 -- nothing is done yet: all registers are 0
 abbrev pub beginning : Progress
 beginning = record { regs = replicate 16 0; outs = []; written = finite.empty }
 
+-- an entry of what was written, as a write
 abbrev pub write_of : (ℕ × ℕ) × Option (List ℕ) → Write
 write_of e = record { table = e.0.0; key = e.0.1; row = e.1 }
 
--- the writes of a transaction that is done, one for each place, the last, in rising order; a declined one has none
+-- the writes of a transaction that is done, one for each place, the last, in rising order; a
+-- declined one has none
 abbrev pub writes_of : Progress → End → List Write
 writes_of p Done = map write_of (finite.entries p.written)
 writes_of p (Declined op) = []
@@ -105,8 +117,3 @@ unfoldable pub run : List Table → List Op → Rows → Reply × List Write
 run tables txn rows =
     let end = ops_done tables rows 1 0 txn beginning in
     (record { outs = end.0.outs; end = end.1 }, writes_of end.0 end.1)
-
--- what an op left, or that it declined and left all as it was
-abbrev pub Leaves : Option Progress → Progress → Progress → Bool → Type 0
-Leaves done old new true = done ≡ Some new
-Leaves done old new false = (done ≡ None) × (new ≡ old)

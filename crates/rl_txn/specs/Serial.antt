@@ -17,6 +17,7 @@ abbrev pub put_or_remove : Rows → ℕ × ℕ → Option (List ℕ) → Rows
 put_or_remove rows place None = finite.remove rows place
 put_or_remove rows place (Some row) = finite.insert rows place row
 
+-- the same, of a write as it is kept
 abbrev pub with_write : Rows → Write → Rows
 with_write rows w = put_or_remove rows (w.table, w.key) w.row
 

@@ -8,7 +8,8 @@ ghost use Rattle.rl_value.specs.Tables.{Table};
 ghost use Rattle.rl_txn.specs.declared.op.Op.{Op};
 ghost use Rattle.rl_txn.specs.Fits.{TxnFits, OpFits};
 ghost use Rattle.rl_txn.specs.Run.{run};
-ghost use Rattle.rl_txn.specs.Eval.{reads_at_most, HasRows, IsEval, known, reads_room, wants, IsThere, IsAsked, AllKnown, Awaits, awaited, HasEnded, StandsAt};
+ghost use Rattle.rl_txn.specs.Eval.{reads_at_most, HasRows, IsEval, known, reads_room, wants, WantsFit, IsAsked, Awaits, awaited, HasEnded, StandsAt};
+ghost use Rattle.rl_txn.specs.Steps.{AllKnown};
 
 use crate::op::{Op, Txn};
 use crate::workspace::Workspace;
@@ -68,7 +69,7 @@ impl Eval {
         requires fits { TxnFits schema.now txn.now }
         requires of { IsEval schema.now txn.now self.old }
         ensures wants { result ≡ wants schema.now txn.now (known self.old) }
-        ensures there { IsThere schema.now result }
+        ensures there { WantsFit schema.now result }
         ensures known { known self.new ≡ known self.old }
         ensures room { reads_room self.new ≡ reads_room self.old }
         ensures of { IsEval schema.now txn.now self.new }
@@ -85,7 +86,8 @@ impl Eval {
         requires { Awaits self.old }
         ensures known { known self.new ≡ finite.insert (known self.old) (awaited self.old) row }
         ensures room { reads_room self.old ≡ reads_room self.new + 1 }
-        ensures of { (tables : List Table) (txn : List Op) → IsEval tables txn self.old → IsEval tables txn self.new }
+        ensures of { (tables : List Table) (txn : List Op)
+            → IsEval tables txn self.old → IsEval tables txn self.new }
     {
         if let Some(Wants::Read { table, key }) = self.wants {
             self.work.read.put(table, key, row);
@@ -98,7 +100,8 @@ impl Eval {
     /// given. It takes no memory.
     pub fn finish(self) -> (Reply, Writes)
         requires { HasEnded self }
-        ensures { (tables : List Table) (txn : List Op) (rows : Rows) → IsEval tables txn self → HasRows (known self) rows → result ≡ run tables txn rows }
+        ensures { (tables : List Table) (txn : List Op) (rows : Rows)
+            → IsEval tables txn self → HasRows (known self) rows → result ≡ run tables txn rows }
     {
         let Eval {
             work,
@@ -133,7 +136,7 @@ impl Eval {
         requires of { IsEval schema.now txn.now self.old }
         requires nothing { self.old.wants ≡ None }
         ensures wants { result ≡ wants schema.now txn.now (known self.old) }
-        ensures there { IsThere schema.now result }
+        ensures there { WantsFit schema.now result }
         ensures read { self.new.work.read ≡ self.old.work.read }
         ensures of { IsEval schema.now txn.now self.new }
         ensures nothing { self.new.wants ≡ None }
@@ -163,7 +166,7 @@ impl Eval {
         ensures done { self.new.done ≡ self.old.done }
         ensures none { IfNone result (AllKnown schema.now (drop self.new.done txn.now) self.new) }
         ensures some { IfSome result (λ w. w ≡ wants schema.now txn.now (known self.old)) }
-        ensures there { IfSome result (IsThere schema.now) }
+        ensures there { IfSome result (WantsFit schema.now) }
         ensures asked { IfSome result (λ w. IsAsked schema.now txn.now self.new (Some w)) }
     {
         let op = txn.get(self.done);
@@ -191,8 +194,10 @@ impl Eval {
         ensures read { self.new.work.read ≡ self.old.work.read }
         ensures more { OnTrue result (self.old.done < self.new.done) }
         ensures same { OnFalse result (self.new.done ≡ self.old.done) }
-        ensures wants { OnFalse result (Wants.Ended (End.Declined (self.old.done + 1)) ≡ wants schema.now txn.now (known self.old)) }
-        ensures asked { OnFalse result (IsAsked schema.now txn.now self.new (Some (Wants.Ended (End.Declined (self.old.done + 1))))) }
+        ensures wants { OnFalse result (Wants.Ended (End.Declined (self.old.done + 1))
+            ≡ wants schema.now txn.now (known self.old)) }
+        ensures asked { OnFalse result (IsAsked schema.now txn.now self.new
+            (Some (Wants.Ended (End.Declined (self.old.done + 1))))) }
     {
         let op = txn.get(self.done);
         let passes = self.work.passes(schema, op) as usize;
@@ -227,39 +232,5 @@ fn most_reads_of(schema: &Schema, op: &Op) -> u32
         Op::Get { .. } | Op::Has { .. } => 1,
         Op::Scan { count, .. } => *count,
         _ => 0,
-    }
-}
-
-#[cfg(test)]
-mod tests {
-    use super::*;
-    use crate::op::{Operand, Operands};
-    use std::test::Fail;
-
-    #[test]
-    fn wants_what_it_has_not_seen(rt: HostRuntime) -> Result<(), Fail> {
-        let alloc = rt.alloc();
-        let mut schema = Schema::new(alloc);
-        schema.declare(alloc, "t", 3, 1)?;
-        let mut values = Operands::new(alloc);
-        values.push(Operand::Num(5))?;
-        let mut txn = Txn::new(alloc);
-        txn.push(Op::Put {
-            table: 0,
-            key: Operand::Num(1),
-            values,
-        })?;
-        txn.push(Op::Scan {
-            table: 0,
-            key: Operand::Num(0),
-            count: 3,
-            column: 0,
-            d: 0,
-        })?;
-        txn.push(Op::Out { a: Operand::Reg(0) })?;
-        let mut eval = Eval::start(alloc, &schema, &txn)?;
-        let first = eval.advance(&schema, &txn);
-        assert_eq!(rt; first, Wants::Read { table: 0, key: 0 });
-        Ok(())
     }
 }

@@ -38,7 +38,7 @@ impl Item {
     }
 }
 
-/// Makes the writes of an item. After `Memory` a front of them is made.
+/// Makes the writes of an item. After `Memory` a prefix of them is made.
 pub fn apply(m: &mut Map, item: &Item) -> Result<(), Memory>
     ensures ok { OnOk result (m.new ≡ after_writes m.old item.now.writes) }
     ensures err { OnErr result ((n : ℕ) × (m.new ≡ after_writes m.old (take n item.now.writes))) }

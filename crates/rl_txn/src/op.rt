@@ -107,7 +107,7 @@ pub enum Op {
         rel: Rel,
         b: Operand,
     },
-    /// Where the relation holds, the next `count` ops are passed over.
+    /// Where the relation holds, the next `count` ops are skipped.
     Skip {
         a: Operand,
         rel: Rel,

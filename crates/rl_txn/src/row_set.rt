@@ -42,7 +42,8 @@ impl Model for RowSet {
 
     ghost Value = { finite.FinMap place_cmp (Option (List ℕ)) × ℕ };
 
-    ghost coded = { coded× (finite.code (coded× coded_ℕ coded_ℕ) (coded_option (coded_list coded_ℕ))) coded_ℕ };
+    ghost coded = { coded×
+        (finite.code (coded× coded_ℕ coded_ℕ) (coded_option (coded_list coded_ℕ))) coded_ℕ };
 
     ghost view = { λ s. (rows_at s.rows.items, s.rows.capacity - length s.rows.items) };
 
@@ -122,7 +123,9 @@ fn search(rows: &[RowAt], table: u32, key: u32) -> Result<usize, usize>
     requires { IsInOrder rows.now }
     ensures within { IsSearchInRange result (length rows.now) }
     ensures found { IfOk result (HoldsAt (λ r. place_at r ≡ (table, key)) rows.now) }
-    ensures between { IfErr result (IsPartitionPoint (λ r. place_cmp (place_at r) (table, key) ≡ Less) (λ r. place_cmp (place_at r) (table, key) ≡ Greater) rows.now) }
+    ensures between { IfErr result (IsPartitionPoint
+        (λ r. place_cmp (place_at r) (table, key) ≡ Less)
+        (λ r. place_cmp (place_at r) (table, key) ≡ Greater) rows.now) }
 {
     rows.binary_search_by_key(&(table, key), |r| (r.table, r.key))
 }

@@ -54,7 +54,8 @@ fn run_one(
     m: &mut Map,
 ) -> Result<Item, Memory>
     requires { TxnFits schema.now txn.now }
-    ensures place { IfOk result (λ item. (item.stamp ≡ stamp) × (item.worker ≡ worker) × (item.index ≡ index)) }
+    ensures request { IfOk result
+        (λ item. (item.stamp ≡ stamp) × (item.worker ≡ worker) × (item.index ≡ index)) }
     ensures run { IfOk result (λ item. run schema.now txn.now m.old ≡ (item.reply, item.writes)) }
     ensures rows { IfOk result (λ item. m.new ≡ after_writes m.old item.writes) }
 {

@@ -6,8 +6,9 @@ ghost use Rattle.std.specs.Option.{option_copied};
 ghost use Rattle.std.specs.FinMap as finite;
 ghost use Rattle.rl_value.specs.Tables.{size_of};
 ghost use Rattle.rl_txn.specs.Fits.{OperandFits, OpFits};
-ghost use Rattle.rl_txn.specs.Run.{value_of, column_of, row_seen, scan_sum, op_done, passes, beginning, with_reg, with_row, only_if, Leaves, holds};
-ghost use Rattle.rl_txn.specs.Eval.{progress_of, places_read, reads_at_most, rows_of, places, unknown, UsesRoom};
+ghost use Rattle.rl_txn.specs.Run.{value_of, column_of, row_seen, scan_sum, op_done, passes, beginning, with_reg, with_row, only_if, holds};
+ghost use Rattle.rl_txn.specs.Eval.{progress_of, places_read, reads_at_most, rows_of, places, unknown};
+ghost use Rattle.rl_txn.specs.Steps.{Leaves, StepLeaves, UsesRoom};
 
 use crate::op::{Op, Operand, Operands};
 use crate::row_set::RowSet;
@@ -66,8 +67,10 @@ impl Workspace {
         requires table { table < length schema.now }
         requires operand { OperandFits key }
         requires few { count ≤ 256 }
-        ensures none { MatchOption result (size_of schema.now table < value_of (progress_of self.now) key + count) (λ keys. value_of (progress_of self.now) key + count ≤ size_of schema.now table) }
-        ensures keys { IfSome result (λ keys. keys ≡ record { table = table; first = value_of (progress_of self.now) key; count = count }) }
+        ensures none { let k = value_of (progress_of self.now) key in MatchOption result
+            (size_of schema.now table < k + count) (λ keys. k + count ≤ size_of schema.now table) }
+        ensures keys { let k = value_of (progress_of self.now) key in
+            IfSome result (λ keys. keys ≡ record { table = table; first = k; count = count }) }
         ensures small { IfSome result (λ keys. keys.first + count ≤ 65536) }
     {
         let key = self.value(key);
@@ -85,10 +88,12 @@ impl Workspace {
     /// The keys that an op reads, if any.
     pub fn reads(&self, schema: &Schema, op: &Op) -> Option<Keys>
         requires { OpFits schema.now op.now }
-        ensures places { MatchOption result (places_read schema.now op.now (progress_of self.now) ≡ []) (λ keys. places_read schema.now op.now (progress_of self.now) ≡ places keys.table keys.first keys.count) }
+        ensures places { let read = places_read schema.now op.now (progress_of self.now) in
+            MatchOption result (read ≡ []) (λ keys. read ≡ places keys.table keys.first keys.count) }
         ensures count { IfSome result (λ keys. keys.count ≡ reads_at_most op.now) }
         ensures small { IfSome result (λ keys. keys.first + keys.count ≤ 65536) }
-        ensures there { IfSome result (λ keys. (keys.table < length schema.now) × (keys.first + keys.count ≤ size_of schema.now keys.table)) }
+        ensures there { IfSome result (λ keys. (keys.table < length schema.now)
+            × (keys.first + keys.count ≤ size_of schema.now keys.table)) }
     {
         match op {
             Op::Get { table, key, .. } | Op::Has { table, key, .. } => {
@@ -113,7 +118,8 @@ impl Workspace {
 
     /// The row of a key as the attempt sees it, with its own writes.
     fn row_at(&self, table: u32, key: u32) -> Option<&Row>
-        ensures { option_copied result ≡ row_seen (rows_of self.now.read.0) self.now.written.0 table key }
+        ensures { option_copied result
+            ≡ row_seen (rows_of self.now.read.0) self.now.written.0 table key }
     {
         match self.written.get(table, key) {
             Some(written) => written.as_ref(),
@@ -126,7 +132,8 @@ impl Workspace {
 
     /// One number of the row of a key, or 0 where there is none.
     fn column(&self, table: u32, key: u32, column: u32) -> u64
-        ensures { result ≡ column_of (row_seen (rows_of self.now.read.0) self.now.written.0 table key) column }
+        ensures { result
+            ≡ column_of (row_seen (rows_of self.now.read.0) self.now.written.0 table key) column }
     {
         match self.row_at(table, key) {
             Some(row) => row.column_or_zero(column),
@@ -137,7 +144,8 @@ impl Workspace {
     /// The wrapping sum of a column over the rows of some keys.
     fn sum(&self, table: u32, key: u32, count: u32, column: u32) -> u64
         requires { key + count < 2 ^ 32 }
-        ensures { result ≡ scan_sum (rows_of self.now.read.0) self.now.written.0 table key count column }
+        ensures { result
+            ≡ scan_sum (rows_of self.now.read.0) self.now.written.0 table key count column }
     {
         let mut sum: u64 = 0;
         for k in key..key + count {
@@ -162,7 +170,8 @@ impl Workspace {
 
     fn set(&mut self, d: u32, value: u64)
         requires { d < 16 }
-        ensures { self.new ≡ record self.old { regs = (with_reg (progress_of self.old) d value).regs } }
+        ensures { self.new
+            ≡ record self.old { regs = (with_reg (progress_of self.old) d value).regs } }
     {
         self.regs[d as usize] = value;
     }
@@ -171,7 +180,7 @@ impl Workspace {
     #[tactic(auto, unfolding(crate::specs::Run::op_done))]
     fn get(&mut self, schema: &Schema, table: u32, key: Operand, column: u32, d: u32) -> bool
         requires { OpFits schema.now (Op.Get table key column d) }
-        ensures leaves { Leaves (op_done schema.now (rows_of self.old.read.0) (Op.Get table key column d) (progress_of self.old)) (progress_of self.old) (progress_of self.new) result }
+        ensures leaves { StepLeaves schema.now (Op.Get table key column d) self.old self.new result }
         ensures room { UsesRoom self.old self.new }
         ensures same { OnFalse result (self.new ≡ self.old) }
     {
@@ -188,7 +197,7 @@ impl Workspace {
     #[tactic(auto, unfolding(crate::specs::Run::op_done))]
     fn has(&mut self, schema: &Schema, table: u32, key: Operand, d: u32) -> bool
         requires { OpFits schema.now (Op.Has table key d) }
-        ensures leaves { Leaves (op_done schema.now (rows_of self.old.read.0) (Op.Has table key d) (progress_of self.old)) (progress_of self.old) (progress_of self.new) result }
+        ensures leaves { StepLeaves schema.now (Op.Has table key d) self.old self.new result }
         ensures room { UsesRoom self.old self.new }
         ensures same { OnFalse result (self.new ≡ self.old) }
     {
@@ -214,7 +223,7 @@ impl Workspace {
         d: u32,
     ) -> bool
         requires { OpFits schema.now (Op.Scan table key count column d) }
-        ensures leaves { Leaves (op_done schema.now (rows_of self.old.read.0) (Op.Scan table key count column d) (progress_of self.old)) (progress_of self.old) (progress_of self.new) result }
+        ensures leaves { StepLeaves schema.now (Op.Scan table key count column d) self.old self.new result }
         ensures room { UsesRoom self.old self.new }
         ensures same { OnFalse result (self.new ≡ self.old) }
     {
@@ -232,7 +241,9 @@ impl Workspace {
         requires table { table < length schema.now }
         requires operand { OperandFits key }
         requires room { 0 < self.old.written.1 }
-        ensures leaves { let k = value_of (progress_of self.old) key in Leaves (only_if (nat_lt k (size_of schema.now table)) (with_row (progress_of self.old) table k row)) (progress_of self.old) (progress_of self.new) result }
+        ensures leaves { let k = value_of (progress_of self.old) key in
+            Leaves (only_if (nat_lt k (size_of schema.now table)) (with_row (progress_of self.old) table k row))
+            (progress_of self.old) (progress_of self.new) result }
         ensures room { UsesRoom self.old self.new }
         ensures same { OnFalse result (self.new ≡ self.old) }
     {
@@ -248,7 +259,9 @@ impl Workspace {
     fn put_out(&mut self, a: Operand)
         requires operand { OperandFits a }
         requires room { length self.old.outs.items < vec_capacity self.old.outs }
-        ensures leaves { progress_of self.new ≡ record (progress_of self.old) { outs = self.old.outs.items ++ value_of (progress_of self.old) a ∷ [] } }
+        ensures leaves { progress_of self.new ≡ record (progress_of self.old) {
+          outs = self.old.outs.items ++ value_of (progress_of self.old) a ∷ [];
+        } }
         ensures room { UsesRoom self.old self.new }
     {
         let value = self.value(a);
@@ -262,7 +275,7 @@ impl Workspace {
         requires fits { OpFits schema.now op.now }
         requires outs { length self.old.outs.items < vec_capacity self.old.outs }
         requires writes { 0 < self.old.written.1 }
-        ensures leaves { Leaves (op_done schema.now (rows_of self.old.read.0) op.now (progress_of self.old)) (progress_of self.old) (progress_of self.new) result }
+        ensures leaves { StepLeaves schema.now op.now self.old self.new result }
         ensures room { UsesRoom self.old self.new }
         ensures same { OnFalse result (self.new ≡ self.old) }
     {
@@ -297,7 +310,7 @@ impl Workspace {
         true
     }
 
-    /// How many of the ops after it an op passes over.
+    /// How many of the ops after it an op skips.
     pub fn passes(&self, schema: &Schema, op: &Op) -> u32
         requires { OpFits schema.now op.now }
         ensures passes { result ≡ passes op.now (progress_of self.now) }
@@ -315,8 +328,10 @@ impl Workspace {
         requires small { keys.first + keys.count ≤ 65536 }
         ensures more { from ≤ result }
         ensures few { result ≤ keys.count }
-        ensures known { (j : ℕ) → from ≤ j → j < result → unknown self.now.read.0 self.now.written.0 (keys.table, keys.first + j) ≡ false }
-        ensures next { result < keys.count → unknown self.now.read.0 self.now.written.0 (keys.table, keys.first + result) ≡ true }
+        ensures known { (j : ℕ) → from ≤ j → j < result
+            → unknown self.now.read.0 self.now.written.0 (keys.table, keys.first + j) ≡ false }
+        ensures next { result < keys.count
+            → unknown self.now.read.0 self.now.written.0 (keys.table, keys.first + result) ≡ true }
     {
         for n in from..keys.count {
             if self.is_unknown(keys.table, keys.first + n) {

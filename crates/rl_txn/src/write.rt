@@ -66,10 +66,7 @@ pub type Writes = Seq<Write>;
 pub fn copy_row(row: &Option<Row>) -> Option<Row>
     ensures { result ≡ row.now }
 {
-    match row {
-        Some(row) => Some(row.copy()),
-        None => None,
-    }
+    row.as_ref().map(Row::copy)
 }
 
 /// Equal writes.

@@ -9,7 +9,7 @@ use Rattle.std.proofs.lemmas.Cmp.{on_total, then_total}
 use Rattle.std.specs.Ordering.{nat_cmp}
 use Rattle.std.specs.FinMap.Entries.{below_all}
 use Rattle.std.specs.Ordering.{is_lt}
-use Rattle.std.specs.declared.cmp.Ordering.TheVariants.{Less}
+use Rattle.std.specs.declared.cmp.Ordering.TheVariants.{Less, Equal}
 use Rattle.std.specs.List.{AllByRecursion}
 use Rattle.std.specs.List.Sorted.{IsStrictlySortedBy}
 use Rattle.std.proofs.lemmas.Map.Keys.{sorted_head, sorted_tail}
@@ -17,6 +17,9 @@ use Rattle.rl_value.specs.Rows.{place_cmp}
 
 pub places_total : IsTotalOrder place_cmp
 places_total = then_total (on_total (λ (p : ℕ × ℕ). p.0) nat_cmp_total) (on_total (λ (p : ℕ × ℕ). p.1) nat_cmp_total)
+
+pub same_place : (p q : ℕ × ℕ) → place_cmp p q ≡ Equal → p ≡ q
+same_place p q e = exact_pairs nat_cmp nat_cmp exact_unsigned exact_unsigned p q e
 
 -- what entries have at a place
 abbrev pub value_at : {X : Type 0} → List ((ℕ × ℕ) × X) → ℕ × ℕ → Option X

@@ -13,25 +13,23 @@ use Rattle.std.proofs.lemmas.Option.{slice_get-map, slice_get_cases}
 use Rattle.std.specs.Option.{option_map, option_map_or}
 use Rattle.indexmap.specs.IndexMap.{insert_entry}
 use Rattle.indexmap.proofs.CallerLemmas.{insert_entry-new}
+use Rattle.rl_base.proofs.ListsLemmas.{get_before, get_last}
 use Rattle.rl_value.specs.declared.schema.Shape.{Shape}
 use Rattle.std.proofs.lemmas.Bool.{cases_lt}
 use Rattle.std.proofs.lemmas.Bool.Decides.{nat_tests}
 use Rattle.rl_value.specs.Declare.{refusal}
-use Rattle.rl_value.specs.Tables.{Table, IsTable, IsSchema, HaveNamesOfTheirOwn, name_of, table_named, record_count, tables_of}
+use Rattle.rl_value.specs.Tables.{Table, IsTable, IsSchema, HaveNamesOfTheirOwn, name_of, table_named, record_count}
+use Rattle.rl_value.specs.Entries.{table_of, tables_of}
 
 abbrev pub Entry : Type 0
 Entry = String Global × Shape
 
--- a table as its entry says
-abbrev pub table_of : Entry → Table
-table_of e = record { name = string_bytes e.0; size = e.1.size; columns = e.1.columns }
-
-place : (p : List ℕ → Bool) (i : ℕ) (es : List Entry) → position_from (λ (k : String Global). p (string_bytes k)) i (map (λ e. e.0) es) ≡ position_from (λ (t : Table). p t.name) i (map table_of es)
-place p i [] = refl
-place p i (e ∷ es) = ap (cond (p (string_bytes e.0)) (Some i)) (place p (i + 1) es)
+entry_position : (p : List ℕ → Bool) (i : ℕ) (es : List Entry) → position_from (λ (k : String Global). p (string_bytes k)) i (map (λ e. e.0) es) ≡ position_from (λ (t : Table). p t.name) i (map table_of es)
+entry_position p i [] = refl
+entry_position p i (e ∷ es) = ap (cond (p (string_bytes e.0)) (Some i)) (entry_position p (i + 1) es)
 
 pub find_table : (name : List ℕ) (es : List Entry) → position (λ (k : String Global). bytes_eq name (string_bytes k)) (map (λ e. e.0) es) ≡ table_named name (map table_of es)
-find_table name es = position_from-zero (λ (k : String Global). bytes_eq name (string_bytes k)) (map (λ e. e.0) es) ∙ place (bytes_eq name) 0 es
+find_table name es = position_from-zero (λ (k : String Global). bytes_eq name (string_bytes k)) (map (λ e. e.0) es) ∙ entry_position (bytes_eq name) 0 es
 
 absent : (k : String Global) (i : ℕ) (es : List Entry) → position_from (λ t. bytes_eq (string_bytes k) t.name) i (map table_of es) ≡ None → lookup (string_eq k) es ≡ None
 absent k i [] h = refl
@@ -55,7 +53,7 @@ table_at entries t e at all =
       | inr (past, none) ↦ cc
     ]
 
--- one more table leaves the place of one that was found before, and is found itself where its name is new
+-- one more table leaves the number of one that was found before, and is found itself where its name is new
 found_before : (p : Table → Bool) (i k : ℕ) (tables : List Table) (x : Table) → position_from p i tables ≡ Some k → position_from p i (tables ++ x ∷ []) ≡ Some k
 found_before p i k [] x h = cc
 found_before p i k (t ∷ tables) x h =
@@ -72,15 +70,6 @@ found_last p i (t ∷ tables) x h is =
       | false ↦ λ h. found_last p (i + 1) tables x h is ∙ ap Some (omega arith)
     ] h
 
-at_before : (tables : List Table) (x : Table) (t : ℕ) → t < length tables → slice_get (tables ++ x ∷ []) t ≡ slice_get tables t
-at_before [] x t within = absurd (omega arith)
-at_before (y ∷ tables) x zero within = refl
-at_before (y ∷ tables) x (suc t) within = at_before tables x t (omega arith)
-
-at_last : (tables : List Table) (x : Table) → slice_get (tables ++ x ∷ []) (length tables) ≡ Some x
-at_last [] x = refl
-at_last (y ∷ tables) x = at_last tables x
-
 same_bytes : (name : List ℕ) → bytes_eq name name ≡ true
 same_bytes [] = refl
 same_bytes (b ∷ name) = grind (arith, nat_tests, same_bytes name)
@@ -88,11 +77,11 @@ same_bytes (b ∷ name) = grind (arith, nat_tests, same_bytes name)
 names_push : (tables : List Table) (x : Table) → HaveNamesOfTheirOwn tables → table_named x.name tables ≡ None → HaveNamesOfTheirOwn (tables ++ x ∷ [])
 names_push tables x own new t within = elim (cases_lt t (length tables)) [
   | inl before ↦
-      let name : name_of (tables ++ x ∷ []) t ≡ name_of tables t = ap (λ o. option_map_or (λ table. table.name) o []) (at_before tables x t before) in
+      let name : name_of (tables ++ x ∷ []) t ≡ name_of tables t = ap (λ o. option_map_or (λ table. table.name) o []) (get_before tables x t before) in
       rw name (found_before (λ t'. bytes_eq (name_of tables t) t'.name) 0 t tables x (own t before))
   | inr not_before ↦
       let last : t ≡ length tables = omega (arith, length-append tables (x ∷ [])) in
-      let name : name_of (tables ++ x ∷ []) t ≡ x.name = ap (λ n. name_of (tables ++ x ∷ []) n) last ∙ ap (λ o. option_map_or (λ table. table.name) o []) (at_last tables x) in
+      let name : name_of (tables ++ x ∷ []) t ≡ x.name = ap (λ n. name_of (tables ++ x ∷ []) n) last ∙ ap (λ o. option_map_or (λ table. table.name) o []) (get_last tables x) in
       rw (name, last) (found_last (λ t'. bytes_eq x.name t'.name) 0 tables x new (same_bytes x.name) ∙ ap Some (omega arith))
 ]
 

@@ -1,5 +1,6 @@
 pub mod Cells
 pub mod Declare
+pub mod Entries
 pub mod Fits
 pub mod Names
 pub mod Rows

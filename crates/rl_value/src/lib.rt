@@ -5,5 +5,3 @@ pub mod map;
 pub mod name;
 pub mod row;
 pub mod schema;
-#[cfg(test)]
-mod tests;

@@ -6,16 +6,11 @@ ghost use Rattle.rl_value.specs.Declare.{refusal};
 ghost use Rattle.rl_value.specs.Tables.{IsTable, name_of, size_of, columns_of, table_named, record_count, IsSchema};
 
 use indexmap::IndexMap;
+use rl_base::limit::{RECORDS, TABLES};
 use rl_base::memory::Memory;
 use std::alloc::Global;
 use std::marker::Model;
 use thiserror::Error;
-
-/// How many tables a schema may have.
-pub const MOST_TABLES: usize = 16;
-
-/// How many records all its tables may have together.
-pub const MOST_RECORDS: u32 = 65536;
 
 /// How large a table is.
 #[derive(Clone, Copy, Debug, PartialEq, Eq)]
@@ -33,13 +28,15 @@ pub struct Schema {
 
 impl Model for Schema {
     ghost use Rattle.std.specs.Prelude.{◌≡◌, List};
-    ghost use Rattle.rl_value.specs.Tables.{Table, IsSchema, record_count, tables_of};
+    ghost use Rattle.rl_value.specs.Entries.{tables_of};
+    ghost use Rattle.rl_value.specs.Tables.{Table, IsSchema, record_count};
 
     ghost Value = { List Table };
 
     ghost view = { λ s. tables_of s.tables.entries };
 
-    ghost invariant = { λ s. IsSchema (tables_of s.tables.entries) × (s.records ≡ record_count (tables_of s.tables.entries)) };
+    ghost invariant = { λ s. IsSchema (tables_of s.tables.entries)
+        × (s.records ≡ record_count (tables_of s.tables.entries)) };
 }
 
 /// Why a table was not declared. The schema is unchanged then.
@@ -94,13 +91,15 @@ impl Schema {
     ) -> Result<u32, DeclareError>
         requires name { is_name name.now ≡ true }
         requires some_keys { 1 ≤ size }
-        requires few_keys { size ≤ 65536 }
+        requires few_keys { size ≤ RECORDS }
         requires some_columns { 1 ≤ columns }
         requires few_columns { columns ≤ 4 }
         ensures number { IfOk result (λ t. t ≡ length self.old) }
-        ensures declared { OnOk result (self.new ≡ self.old ++ record { name = name.now; size = size; columns = columns } ∷ []) }
+        ensures declared { OnOk result (self.new ≡
+            self.old ++ record { name = name.now; size = size; columns = columns } ∷ []) }
         ensures refused { IfSome (refusal name.now size self.old) (λ e. result ≡ Err e) }
-        ensures why { IfErr result (λ e. (e ≡ DeclareError.Memory) ⊎ (refusal name.now size self.old ≡ Some e)) }
+        ensures why { IfErr result
+            (λ e. (e ≡ DeclareError.Memory) ⊎ (refusal name.now size self.old ≡ Some e)) }
         ensures unchanged { OnErr result (self.new ≡ self.old) }
     {
         match self.refusal(name, size) {
@@ -114,7 +113,8 @@ impl Schema {
         requires free { refusal name.now size self.old ≡ None }
         requires table { IsTable (record { name = name.now; size = size; columns = columns }) }
         ensures number { IfOk result (λ t. t ≡ length self.old) }
-        ensures declared { OnOk result (self.new ≡ self.old ++ record { name = name.now; size = size; columns = columns } ∷ []) }
+        ensures declared { OnOk result (self.new ≡
+            self.old ++ record { name = name.now; size = size; columns = columns } ∷ []) }
         ensures unchanged { OnErr result (self.new ≡ self.old) }
     {
         let number = self.tables.len() as u32;
@@ -126,16 +126,16 @@ impl Schema {
 
     /// Why a table can't be declared, if it can't.
     fn refusal(&self, name: &str, size: u32) -> Option<DeclareError>
-        requires { size ≤ 65536 }
+        requires { size ≤ RECORDS }
         ensures { result ≡ refusal name.now size self.now }
     {
         if self.find(name).is_some() {
             return Some(DeclareError::DuplicateTable);
         }
-        if self.tables.len() == MOST_TABLES {
+        if self.tables.len() == TABLES as usize {
             return Some(DeclareError::TooManyTables);
         }
-        if self.records + size > MOST_RECORDS {
+        if self.records + size > RECORDS {
             return Some(DeclareError::TooManyRecords);
         }
         None
@@ -146,16 +146,14 @@ impl Schema {
         ensures found { result ≡ table_named name.now self.now }
         ensures there { IfSome result (λ t. t < length self.now) }
     {
-        match self.place(name) {
-            Some(t) => Some(t as u32),
-            None => None,
-        }
+        Some(self.position(name)? as u32)
     }
 
-    fn place(&self, name: &str) -> Option<usize>
+    /// The same, as an index.
+    fn position(&self, name: &str) -> Option<usize>
         ensures found { result ≡ table_named name.now self.now }
         ensures there { IfSome result (λ t. t < length self.now) }
-        ensures few { IfSome result (λ t. t < 16) }
+        ensures few { IfSome result (λ t. t < TABLES) }
     {
         self.tables.get_index_of(name)
     }
@@ -174,7 +172,7 @@ impl Schema {
         requires { t < length self.now }
         ensures size { result ≡ size_of self.now t }
         ensures some { 1 ≤ result }
-        ensures few { result ≤ 65536 }
+        ensures few { result ≤ RECORDS }
     {
         let (_, shape) = self.tables.get_index(t as usize).unwrap();
         shape.size
@@ -202,7 +200,7 @@ impl Schema {
     /// How many records the tables have together.
     pub fn records(&self) -> u32
         ensures records { result ≡ record_count self.now }
-        ensures few { result ≤ 65536 }
+        ensures few { result ≤ RECORDS }
     {
         self.records
     }

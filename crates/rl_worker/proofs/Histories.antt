@@ -18,7 +18,7 @@ use Rattle.rl_txn.specs.Run.{Overlay, op_done, passes, ops_done, beginning, run,
 use Rattle.rl_txn.specs.Eval.{rows_of, wants, HasRows, is_new, unknown, places_read, read_by}
 use Rattle.rl_txn.specs.Serial.{with_write, after_writes, Runs, IsSerial, indexes_of}
 use Rattle.rl_txn.specs.declared.op.Op.{Op}
-use Rattle.rl_txn.specs.declared.progress.Progress.{Progress}
+use Rattle.rl_txn.specs.Run.{Progress}
 use Rattle.rl_txn.specs.declared.eval.Wants.TheVariants.{Read as WantsRead, Ended as WantsEnded}
 use Rattle.rl_txn.specs.declared.write.End.{End}
 use Rattle.rl_txn.specs.declared.write.End.TheVariants.{Declined}

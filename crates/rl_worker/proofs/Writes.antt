@@ -15,7 +15,7 @@ use Rattle.rl_txn.specs.Fits.{OpFits, TxnFits}
 use Rattle.rl_txn.specs.Run.{Overlay, value_of, only_if, op_done, passes, ops_done, beginning, run, write_of, writes_of}
 use Rattle.rl_txn.specs.declared.op.Op.{Op}
 use Rattle.rl_txn.specs.declared.op.Op.TheVariants.{Set, Add, Sub, Mul, Get, Has, Put, Del, Scan, Need, Skip, Out}
-use Rattle.rl_txn.specs.declared.progress.Progress.{Progress}
+use Rattle.rl_txn.specs.Run.{Progress}
 use Rattle.rl_txn.specs.declared.write.Write.{Write}
 use Rattle.rl_txn.specs.declared.write.End.{End}
 use Rattle.rl_txn.specs.declared.write.End.TheVariants.{Done, Declined}

@@ -1,10 +1,11 @@
-use Rattle.std.proofs.Common.{◌≡◌, ◌+◌, drop}
-use Rattle.rl_txn.specs.Run.{ops_done, beginning}
+use Rattle.rl_txn.specs.Eval.{IsEval, HasRows, known, reads_room}
 use Rattle.rl_txn.proofs.run.run.Given as goal
 
-abbrev pub invariant-loop-op : goal.invariant-loop-op
-invariant-loop-op l =
-    record {
-      counted : l.number ≡ l.op-index;
-      same : ops_done l.schema l.m (l.number + 1) l.passed (drop l.op-index l.txn) l.progress ≡ ops_done l.schema l.m 1 0 l.txn beginning;
-    }
+abbrev pub invariant-loop-table : goal.invariant-loop-table
+invariant-loop-table l = record {
+  of : IsEval l.schema l.txn l.eval;
+  has : HasRows (known l.eval) l.m;
+}
+
+abbrev pub decreases-loop-table : goal.decreases-loop-table
+decreases-loop-table l = reads_room l.eval

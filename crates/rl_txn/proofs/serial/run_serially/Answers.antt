@@ -32,14 +32,14 @@ pub loop-txn-preserved : goal.loop-txn-preserved
 loop-txn-preserved c =
     let done = c.loop-txn.invariant in
     let item = c.in_ok-run_one.field-0 in
-    let place = c.in_ok-run_one.ensures.place in
+    let request = c.in_ok-run_one.ensures.request in
     record {
       worker = omega arith;
       index = omega arith;
       list = done.list;
       done = rw (c.in_ok-push.ensures.ok, c.in_ok-run_one.ensures.rows)
           (next_done c.args.schema.now c.args.lists.now c.args.m.now (take c.loop-list.list-index c.args.lists.now) c.loop-txn.items c.loop-txn.m item c.as_slice-txn-items.result.now c.txn-item.result c.loop-list.list-index c.loop-txn.txn-index
-          done.done done.list (slice_get_read _ _ c.loop-txn.txn-index c.txn-item.result refl c.loop-txn-test.true c.txn-item.is) (place.0 ∙ ap (λ (n : ℕ). stamp_after n) c.len.ensures) (place.1 ∙ omega arith) (place.2 ∙ omega arith) c.in_ok-run_one.ensures.run);
+          done.done done.list (slice_get_read _ _ c.loop-txn.txn-index c.txn-item.result refl c.loop-txn-test.true c.txn-item.is) (request.0 ∙ ap (λ (n : ℕ). stamp_after n) c.len.ensures) (request.1 ∙ omega arith) (request.2 ∙ omega arith) c.in_ok-run_one.ensures.run);
     }
 
 pub loop-list-preserved : goal.loop-list-preserved

@@ -1,5 +1,5 @@
 use Rattle.std.proofs.Common.{ap, ◌∙◌, [], ◌∷◌, ◌++◌}
-use Rattle.rl_value.specs.Tables.{tables_of}
+use Rattle.rl_value.specs.Entries.{tables_of}
 use Rattle.rl_value.proofs.SchemaLemmas.{tables_push, declared_tables}
 use Rattle.rl_value.proofs.schema.Schema.add.Goals as goal
 

@@ -1,7 +1,7 @@
 use Rattle.std.proofs.Common.{ap, ◌∙◌}
 use Rattle.rl_value.specs.Tables.{table_named}
 use Rattle.rl_value.proofs.SchemaLemmas.{find_table}
-use Rattle.rl_value.proofs.schema.Schema.place.Goals as goal
+use Rattle.rl_value.proofs.schema.Schema.position.Goals as goal
 
 pub returns-clause-found : goal.returns-clause-found
 returns-clause-found c =

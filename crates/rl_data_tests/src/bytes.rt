@@ -1,12 +1,14 @@
+//! Sources and sinks, and what is read and written where a call fails.
+
 ghost use Rattle.std.specs.Prelude.{◌<◌};
 
-use crate::memory_sink::MemSink;
-use crate::memory_source::MemSource;
-use crate::sink::{Sink, WriteFault, write_whole};
-use crate::source::{Failed, ReadError, Source, read_all};
-use crate::standard_sink::StdSink;
-use crate::standard_source::StdSource;
 use rl_base::list::{Bytes, Fails};
+use rl_io::memory_sink::MemSink;
+use rl_io::memory_source::MemSource;
+use rl_io::sink::{Sink, WriteFault, write_whole};
+use rl_io::source::{Failed, ReadError, Source, read_all};
+use rl_io::standard_sink::StdSink;
+use rl_io::standard_source::StdSource;
 use std::alloc::Global;
 use std::io;
 use std::io::{Cursor, Write};
@@ -43,7 +45,7 @@ fn all_bytes_are_read(rt: HostRuntime) -> Result<(), Fail> {
 }
 
 #[test]
-fn a_front_is_written_at_a_fault(rt: HostRuntime) -> Result<(), Fail> {
+fn a_prefix_is_written_at_a_fault(rt: HostRuntime) -> Result<(), Fail> {
     for (failing, held) in [(1, ""), (2, "sev"), (3, "seven "), (4, "seven b")] {
         let mut fails = Fails::new(rt.alloc());
         fails.push(failing)?;

@@ -1,6 +1,8 @@
-use crate::map::Map;
-use crate::row::Row;
-use crate::schema::{DeclareError, Schema};
+//! Tables, and rows at their places.
+
+use rl_value::map::Map;
+use rl_value::row::Row;
+use rl_value::schema::{DeclareError, Schema};
 use std::test::Fail;
 
 #[test]

@@ -1,13 +1,17 @@
-use crate::epoch::{next_epoch, owner};
-use crate::list::{Bytes, Log};
-use crate::stamp::{Stamp, pack, unpack};
-use crate::word::{is_locked, locked, stamp_of, unlocked, word_of};
+//! Stamps, words, epochs and lists.
+
+use rl_base::epoch::{next_epoch, owner};
+use rl_base::list::{Bytes, Log};
+use rl_base::stamp::{Stamp, pack, unpack};
+use rl_base::word::{is_locked, locked, stamp_of, unlocked, word_of};
 use std::test::Fail;
 
 #[test]
 fn lists_keep_what_is_pushed(rt: HostRuntime) -> Result<(), Fail> {
     let mut log = Log::new(rt.alloc());
-    log.push(Bytes::from_slice(rt.alloc(), b"first")?)?;
+    let mut first = Bytes::from_slice(rt.alloc(), b"fir")?;
+    first.append(b"st")?;
+    log.push(first)?;
     log.push(Bytes::new(rt.alloc()))?;
     log.push_at(1, 7)?;
     let mut copy = log.copy(rt.alloc())?;
