@@ -1,8 +1,7 @@
-pub mod Causes
-pub mod Commands
 pub mod Ranges
 pub mod Followed
 pub mod Opened
 pub mod Reported
 pub mod Runs
+pub mod Served
 pub mod Stepping

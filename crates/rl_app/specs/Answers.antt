@@ -1,73 +1,60 @@
 -- What a command that reads a script answers.
-use Rattle.std.specs.Prelude.{◌≡◌, ℕ, ◌<◌, ◌⊎◌, List, length, Option, Result, Ok, Err, IfSome, nat_lt, if◌then◌else◌}
+use Rattle.std.specs.Prelude.{◌≡◌, ℕ, List, [], ◌∷◌, ◌++◌, codes, MatchResult}
+use Rattle.std.specs.Fmt.{decimal}
 use Rattle.rl_base.specs.declared.limit.LimitName.{LimitName}
+use Rattle.rl_base.specs.declared.limit.LimitName.TheVariants as limits
 use Rattle.rl_events.specs.declared.kind.Kind.{Kind}
+use Rattle.rl_events.specs.declared.kind.Kind.TheVariants as kinds
 use Rattle.rl_script.specs.Read.{read}
 use Rattle.rl_script.specs.declared.fault.Problem.{Problem}
 use Rattle.rl_script.specs.declared.fault.Problem.TheVariants.{Fault, Limit}
 use Rattle.rl_script.specs.declared.script.Script.{Script}
-use Rattle.rl_app.specs.Serve.{input_limit, input_limit_line, fault_line, limit_line, WasRead, Wrote}
+use Rattle.rl_app.specs.Serve.{limit_line}
 
--- the status and the line of what is wrong with a script
+-- the word of a kind of fault
+abbrev pub kind_text : Kind → List ℕ
+kind_text kinds.Byte = codes "Byte"
+kind_text kinds.Header = codes "Header"
+kind_text kinds.Word = codes "Word"
+kind_text kinds.Order = codes "Order"
+kind_text kinds.Count = codes "Count"
+kind_text kinds.Number = codes "Number"
+kind_text kinds.Range = codes "Range"
+kind_text kinds.Name = codes "Name"
+kind_text kinds.Duplicate = codes "Duplicate"
+kind_text kinds.UnknownTable = codes "UnknownTable"
+kind_text kinds.Register = codes "Register"
+kind_text kinds.Relation = codes "Relation"
+kind_text kinds.Unended = codes "Unended"
+
+-- the word of a limit of the language
+abbrev pub limit_name : LimitName → List ℕ
+limit_name limits.Nodes = codes "nodes"
+limit_name limits.Workers = codes "workers"
+limit_name limits.Tables = codes "tables"
+limit_name limits.Records = codes "records"
+limit_name limits.Requests = codes "requests"
+limit_name limits.Ops = codes "ops"
+limit_name limits.Events = codes "events"
+limit_name limits.Elections = codes "elections"
+limit_name limits.Slots = codes "slots"
+limit_name limits.Bytes = codes "bytes"
+limit_name limits.Asks = codes "asks"
+
+-- the line of a fault: its line and its kind
+abbrev pub fault_line : ℕ → Kind → List ℕ
+fault_line line kind = codes "fault line " ++ decimal line ++ 32 ∷ kind_text kind ++ 10 ∷ []
+
+-- the status and the text of what is wrong with a line of a script
 abbrev pub Refuses : ℕ → Problem → ℕ → List ℕ → Type 0
-Refuses line (Fault kind) code text = (code ≡ 3) × (text ≡ fault_line line kind)
-Refuses line (Limit name limit) code text = (code ≡ 4) × (text ≡ limit_line name limit)
+Refuses line (Fault kind) status text = (status ≡ 3) × (text ≡ fault_line line kind)
+Refuses line (Limit name limit) status text = (status ≡ 4) × (text ≡ limit_line (limit_name name) limit)
 
--- a script has status 0 and its report, as a command R reports it, and all else the status and the line of what is wrong with it
-abbrev pub AnswersRead : (Script → List ℕ → Type 0) → Result Script (ℕ × Problem) → ℕ → List ℕ → Type 0
-AnswersRead R (Ok script) code text = (code ≡ 0) × R script text
-AnswersRead R (Err problem) code text = Refuses problem.0 problem.1 code text
+-- the answer to an input that is a script, as R says, or to one that is none, at the first line with which something is wrong
+abbrev pub AnswersScript : (Script → ℕ → List ℕ → Type 0) → List ℕ → ℕ → List ℕ → Type 0
+AnswersScript R input status text =
+    MatchResult (read input) (λ script. R script status text) (λ wrong. Refuses wrong.0 wrong.1 status text)
 
-abbrev pub Answers : (Script → List ℕ → Type 0) → List ℕ → ℕ → List ℕ → Type 0
-Answers R input code text = AnswersRead R (read input) code text
-
--- the input that was read is a script, and its report is what was written
-pub record Reports (R : Script → List ℕ → Type 0) (left_old left_new held_old held_new : Option (List ℕ)) : Type 0 where
-  pub input : List ℕ
-  pub was_read : WasRead left_old left_new input
-  pub script : Script
-  pub is_script : read input ≡ Ok script
-  pub text : List ℕ
-  pub report : R script text
-  pub wrote : Wrote held_old held_new text
-
--- the input that was read breaks a rule first at a line, and the line of this fault is what was written
-pub record Faults (left_old left_new held_old held_new : Option (List ℕ)) : Type 0 where
-  pub input : List ℕ
-  pub was_read : WasRead left_old left_new input
-  pub line : ℕ
-  pub kind : Kind
-  pub is_fault : read input ≡ Err (line, Fault kind)
-  pub wrote : Wrote held_old held_new (fault_line line kind)
-
--- the input that was read passes a limit first at a line, and the line of this limit is what was written
-pub record Passes (left_old left_new held_old held_new : Option (List ℕ)) : Type 0 where
-  pub input : List ℕ
-  pub was_read : WasRead left_old left_new input
-  pub line : ℕ
-  pub name : LimitName
-  pub limit : ℕ
-  pub is_limit : read input ≡ Err (line, Limit name limit)
-  pub wrote : Wrote held_old held_new (limit_line name limit)
-
--- the input is too long, and the line of this limit is what was written
-pub record IsTooLong (left_old held_old held_new : Option (List ℕ)) : Type 0 where
-  pub long : IfSome left_old (λ left. input_limit < length left)
-  pub wrote : Wrote held_old held_new input_limit_line
-
--- a limit is passed: that of the input, or one of the script
-abbrev pub Limits : Option (List ℕ) → Option (List ℕ) → Option (List ℕ) → Option (List ℕ) → Type 0
-Limits left_old left_new held_old held_new = IsTooLong left_old held_old held_new ⊎ Passes left_old left_new held_old held_new
-
--- the status of what a text says
-abbrev pub status_of_problem : Problem → ℕ
-status_of_problem (Fault kind) = 3
-status_of_problem (Limit name limit) = 4
-
-abbrev pub status_of_read : Result Script (ℕ × Problem) → ℕ
-status_of_read (Ok script) = 0
-status_of_read (Err problem) = status_of_problem problem.1
-
--- the status that an input has, if no read, no write and no memory fails
-abbrev pub status_of : List ℕ → ℕ
-status_of input = if nat_lt input_limit (length input) then 4 else status_of_read (read input)
+-- the answer of a command that has a report of each script, which R relates to it
+abbrev pub Reports : (Script → List ℕ → Type 0) → List ℕ → ℕ → List ℕ → Type 0
+Reports R = AnswersScript (λ script status text. (status ≡ 0) × R script text)

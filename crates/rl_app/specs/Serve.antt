@@ -1,84 +1,101 @@
--- What a call of the program answers and writes, whatever the command.
+-- What a call of the program reads and writes, whatever the command.
 use Rattle.std.specs.Prelude.{◌≡◌, ℕ, ◌<◌, ◌≤◌, ◌⊎◌, List, [], ◌∷◌, ◌++◌, length, take, codes, Option, Some, IfSome}
 use Rattle.std.specs.Io.KnownBytes.{append_known}
 use Rattle.std.specs.Fmt.{decimal}
-use Rattle.rl_base.specs.declared.limit.LimitName.{LimitName}
-use Rattle.rl_base.specs.declared.limit.LimitName.TheVariants as limits
-use Rattle.rl_events.specs.declared.kind.Kind.{Kind}
-use Rattle.rl_events.specs.declared.kind.Kind.TheVariants.{Byte, Header, Word, Order, Count, Number, Range, Name, Duplicate, UnknownTable, Register, Relation, Unended}
+use Rattle.rl_io.specs.Faults.{Rose}
 
--- the most bytes that a command reads
-abbrev pub input_limit : ℕ
-input_limit = 4194304
+-- ---- what a source and a sink tell of a call ----
 
-abbrev pub kind_text : Kind → List ℕ
-kind_text Byte = codes "Byte"
-kind_text Header = codes "Header"
-kind_text Word = codes "Word"
-kind_text Order = codes "Order"
-kind_text Count = codes "Count"
-kind_text Number = codes "Number"
-kind_text Range = codes "Range"
-kind_text Name = codes "Name"
-kind_text Duplicate = codes "Duplicate"
-kind_text UnknownTable = codes "UnknownTable"
-kind_text Register = codes "Register"
-kind_text Relation = codes "Relation"
-kind_text Unended = codes "Unended"
+-- the bytes that a source has left or that a sink holds, before and after a call, where it tells them, and its counts of faults
+pub record Side : Type 0 where
+  pub before : Option (List ℕ)
+  pub after : Option (List ℕ)
+  pub faults_before : ℕ
+  pub faults_after : ℕ
 
-abbrev pub limit_name : LimitName → List ℕ
-limit_name limits.Nodes = codes "nodes"
-limit_name limits.Workers = codes "workers"
-limit_name limits.Tables = codes "tables"
-limit_name limits.Records = codes "records"
-limit_name limits.Requests = codes "requests"
-limit_name limits.Ops = codes "ops"
-limit_name limits.Events = codes "events"
-limit_name limits.Elections = codes "elections"
-limit_name limits.Slots = codes "slots"
-limit_name limits.Bytes = codes "bytes"
-limit_name limits.Asks = codes "asks"
+-- what a source or a sink tells by its two meanings, of its values before and after a call
+abbrev pub side : {V : Type 0} → (V → Option (List ℕ)) → (V → ℕ) → V → V → Side
+side bytes faults old new = record {
+  before = bytes old;
+  after = bytes new;
+  faults_before = faults old;
+  faults_after = faults new;
+}
 
--- the line of each status
-abbrev pub usage_line : List ℕ
-usage_line = codes "usage: rolis serial, steps, sim, live, check, gen script S N W R, gen run S N W R\n"
+-- a read or a write failed
+abbrev pub FaultsRose : Side → Type 0
+FaultsRose side = Rose side.faults_before side.faults_after
 
-abbrev pub fault_line : ℕ → Kind → List ℕ
-fault_line line kind = codes "fault line " ++ decimal line ++ 32 ∷ kind_text kind ++ 10 ∷ []
+-- an input was read to its end: where the source tells what it had left, that is this input
+abbrev pub WasRead : Side → List ℕ → Type 0
+WasRead source input = IfSome source.before (λ left. (left ≡ input) × (source.after ≡ Some []))
 
-abbrev pub limit_line : LimitName → ℕ → List ℕ
-limit_line name limit = codes "limit " ++ limit_name name ++ 32 ∷ decimal limit ++ 10 ∷ []
+-- a text was written whole
+abbrev pub Wrote : Side → List ℕ → Type 0
+Wrote sink text = sink.after ≡ append_known sink.before text
 
-abbrev pub input_limit_line : List ℕ
-input_limit_line = codes "limit input 4194304\n"
+-- a prefix of a text was written
+abbrev pub WrotePrefix : Side → List ℕ → Type 0
+WrotePrefix sink text = (n : ℕ) × (sink.after ≡ append_known sink.before (take n text))
 
+-- ---- lines that no command chooses ----
+
+-- the line of a limit that is passed
+abbrev pub limit_line : List ℕ → ℕ → List ℕ
+limit_line name limit = codes "limit " ++ name ++ 32 ∷ decimal limit ++ 10 ∷ []
+
+-- the line of a read that failed
 abbrev pub read_fault_line : List ℕ
 read_fault_line = codes "read fault\n"
 
+-- the line where there was no memory
 abbrev pub memory_line : List ℕ
 memory_line = codes "memory\n"
 
--- an input was read to its end; where the source tells what it had left, the input is all of it
-abbrev pub WasRead : Option (List ℕ) → Option (List ℕ) → List ℕ → Type 0
-WasRead old new input = IfSome old (λ left. (left ≡ input) × (new ≡ Some []))
+-- ---- a call that only writes ----
 
--- a text was written whole
-abbrev pub Wrote : Option (List ℕ) → Option (List ℕ) → List ℕ → Type 0
-Wrote old new text = new ≡ append_known old text
+-- the text of a status was written whole, or, at status 6, a write failed after a prefix of it
+abbrev pub Delivers : Side → ℕ → List ℕ → ℕ → Type 0
+Delivers sink composed text status =
+    ((status ≡ composed) × Wrote sink text)
+    ⊎ ((status ≡ 6) × FaultsRose sink × WrotePrefix sink text)
 
--- what is held grew by a front of a text
-abbrev pub WroteFront : Option (List ℕ) → Option (List ℕ) → List ℕ → Type 0
-WroteFront old new text = (n : ℕ) × (new ≡ append_known old (take n text))
+-- a call composed a status and a text, as A says or for want of memory 7 and its line, and then wrote the text;
+-- where no write failed, the status is one that A says, or 7
+pub record Writes (A : ℕ → List ℕ → Type 0) (sink : Side) (status : ℕ) : Type 0 where
+  pub composed : ℕ
+  pub text : List ℕ
+  pub composes : A composed text ⊎ ((composed ≡ 7) × (text ≡ memory_line))
+  pub delivers : Delivers sink composed text status
+  pub complete : (FaultsRose sink → ⊥) → A status text ⊎ (status ≡ 7)
 
--- the status and the text of a call that reads an input, where a command answers inputs so: they come from a fault, a limit, want of memory, or what was read
-abbrev pub Means : (List ℕ → ℕ → List ℕ → Type 0) → Option (List ℕ) → Option (List ℕ) → Type 0 → ℕ → List ℕ → Type 0
-Means Answers old new rose code text =
-    (rose × (code ≡ 5) × (text ≡ read_fault_line))
-    ⊎ (IfSome old (λ left. input_limit < length left) × (code ≡ 4) × (text ≡ input_limit_line))
-    ⊎ ((code ≡ 7) × (text ≡ memory_line))
-    ⊎ ((input : List ℕ) × WasRead old new input × (length input ≤ input_limit) × Answers input code text)
+-- ---- a call that reads, and then writes ----
 
--- a text is written and its status answered, or at a fault of the sink a front of it and 6
-abbrev pub Delivers : Option (List ℕ) → Option (List ℕ) → Type 0 → ℕ → List ℕ → ℕ → Type 0
-Delivers old new rose code text result =
-    ((result ≡ code) × Wrote old new text) ⊎ ((result ≡ 6) × rose × WroteFront old new text)
+-- the statuses of an answer: all is well (0), what was to be checked is wrong (1), the input has a fault (3), a limit is passed (4)
+abbrev pub IsAnswered : ℕ → Type 0
+IsAnswered status = (status ≡ 0) ⊎ (status ≡ 1) ⊎ (status ≡ 3) ⊎ (status ≡ 4)
+
+-- an input was read whole, keeps the limit, and has this answer, as A says
+pub record Answers (A : List ℕ → ℕ → List ℕ → Type 0) (limit : ℕ) (source : Side) (status : ℕ) (text : List ℕ) : Type 0 where
+  pub input : List ℕ
+  pub was_read : WasRead source input
+  pub within : length input ≤ limit
+  pub answer : A input status text
+  pub answered : IsAnswered status
+
+-- an input is too long (4), or a read failed (5)
+abbrev pub Stops : ℕ → Side → ℕ → List ℕ → Type 0
+Stops limit source status text =
+    ((status ≡ 4) × IfSome source.before (λ input. limit < length input) × (text ≡ limit_line (codes "input") limit))
+    ⊎ ((status ≡ 5) × FaultsRose source × (text ≡ read_fault_line))
+
+-- what a call that reads composes
+abbrev pub Reads : (List ℕ → ℕ → List ℕ → Type 0) → ℕ → Side → ℕ → List ℕ → Type 0
+Reads A limit source status text = Answers A limit source status text ⊎ Stops limit source status text
+
+-- a call read an input and wrote the answer to it that A says, or the line of what went wrong; where the source tells an
+-- input within the limit, and no read and no write failed, the status is that of an answer, or 7
+pub record Serves (A : List ℕ → ℕ → List ℕ → Type 0) (limit : ℕ) (source sink : Side) (status : ℕ) : Type 0 where
+  pub writes : Writes (Reads A limit source) sink status
+  pub complete : IfSome source.before (λ input. length input ≤ limit → (FaultsRose source → ⊥) → (FaultsRose sink → ⊥)
+      → ((text : List ℕ) × A input status text) ⊎ (status ≡ 7))

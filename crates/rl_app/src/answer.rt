@@ -1,92 +1,138 @@
-//! How a command that reads a script answers.
+//! What a call answers, and how it is written.
 
-ghost use Rattle.std.specs.Prelude.{◌≡◌, ◌<◌, ◌≤◌, ◌-◌, ◌^◌, ◌⊎◌, ℕ, List, IfOk, IfSome, IsSome, length};
+ghost use Rattle.std.specs.Prelude.{◌≡◌, ◌≤◌, IfOk, MatchResult};
 ghost use Rattle.std.specs.String.{string_bytes};
-ghost use Rattle.rl_io.specs.Faults.{Rose};
-ghost use Rattle.rl_script.specs.Fits.{ScriptFits};
-ghost use Rattle.rl_app.specs.Answers.{Answers};
-ghost use Rattle.rl_app.specs.Command.{report_of};
-ghost use Rattle.rl_app.specs.Serve.{input_limit, Means, Delivers};
+ghost use Rattle.rl_app.specs.Answers.{kind_text, limit_name, fault_line};
+ghost use Rattle.rl_app.specs.Serve.{Delivers, limit_line, memory_line, side};
 
-use crate::serial::serial_run;
-use crate::serve::{INPUT_LIMIT, Status, deliver, fault_text, limit_text};
-use crate::steps::steps_run;
+use rl_base::limit::LimitName;
 use rl_base::memory::Memory;
-use rl_io::sink::Sink;
-use rl_io::source::{ReadError, Source, read_all};
-use rl_script::fault::ParseError;
-use rl_script::script::{Script, parse};
+use rl_events::kind::Kind;
+use rl_io::sink::{Sink, write_whole};
 use std::alloc::Global;
 
-/// A command that reads a script and writes a report.
+/// How a call ended: 0 where its output is written, 6 where a write failed and a prefix of its text
+/// is written, and else the number of the one line that it wrote.
 #[derive(Clone, Copy, Debug, PartialEq, Eq)]
-pub enum Command {
-    Serial,
-    Steps,
+pub struct Status {
+    pub code: u8,
 }
 
-/// Serves a call of a command.
-pub fn serve<S: Source, K: Sink>(
-    alloc: Global,
-    command: Command,
-    source: &mut S,
-    sink: &mut K,
-) -> Status
-    ensures { (code : ℕ) × (text : List ℕ) × Means (Answers (report_of command)) (S.left source.old) (S.left source.new) (Rose (S.faults source.old) (S.faults source.new)) code text × Delivers (K.held sink.old) (K.held sink.new) (Rose (K.faults sink.old) (K.faults sink.new)) code text result.code }
+/// A status, and the text to write for it.
+#[derive(Drop)]
+pub struct Answer {
+    pub status: Status,
+    pub text: String,
+}
+
+impl Answer {
+    /// A report: status 0 with this text.
+    pub fn report(text: String) -> Answer
+        ensures status { result.status.code ≡ 0 }
+        ensures text { result.text ≡ text }
+    {
+        Answer {
+            status: Status { code: 0 },
+            text,
+        }
+    }
+}
+
+/// The answer at the first fault of an input.
+pub fn fault_answer(alloc: Global, line: u32, kind: Kind) -> Result<Answer, Memory>
+    ensures status { IfOk result (λ answer. answer.status.code ≡ 3) }
+    ensures text { IfOk result (λ answer. string_bytes answer.text ≡ fault_line line kind) }
 {
-    match compose(alloc, command, source) {
-        Ok((status, text)) => deliver(sink, status, text.as_bytes()),
+    let mut text = format!(in alloc; "fault line {line} ")?;
+    text.push_str(kind_name(kind))?;
+    text.push_str("\n")?;
+    Ok(Answer {
+        status: Status { code: 3 },
+        text,
+    })
+}
+
+/// The answer where a limit of the language is passed.
+pub fn passed_answer(alloc: Global, name: LimitName, limit: u32) -> Result<Answer, Memory>
+    ensures status { IfOk result (λ answer. answer.status.code ≡ 4) }
+    ensures text { IfOk result (λ answer. string_bytes answer.text ≡ limit_line (limit_name name) limit) }
+{
+    limit_answer(alloc, name_of_limit(name), limit)
+}
+
+/// The answer where a limit is passed, whatever its name.
+pub fn limit_answer(alloc: Global, name: &str, limit: u32) -> Result<Answer, Memory>
+    ensures status { IfOk result (λ answer. answer.status.code ≡ 4) }
+    ensures text { IfOk result (λ answer. string_bytes answer.text ≡ limit_line name.now limit) }
+{
+    let mut text = String::from_str(alloc, "limit ")?;
+    text.push_str(name)?;
+    write!(&mut text, " {limit}\n")?;
+    Ok(Answer {
+        status: Status { code: 4 },
+        text,
+    })
+}
+
+/// Writes an answer, or that there was no memory for it.
+pub fn write_answer<K: Sink>(sink: &mut K, answer: Result<Answer, Memory>) -> Status
+    ensures { MatchResult answer
+        (λ a. Delivers (side K.held K.faults sink.old sink.new) a.status.code (string_bytes a.text) result.code)
+        (λ _. Delivers (side K.held K.faults sink.old sink.new) 7 memory_line result.code) }
+{
+    match answer {
+        Ok(answer) => deliver(sink, answer.status, answer.text.as_bytes()),
         Err(Memory) => deliver(sink, Status { code: 7 }, b"memory\n"),
     }
 }
 
-/// The status and the text of a call, before anything is written.
-fn compose<S: Source>(
-    alloc: Global,
-    command: Command,
-    source: &mut S,
-) -> Result<(Status, String), Memory>
-    ensures { IfOk result (λ out. Means (Answers (report_of command)) (S.left source.old) (S.left source.new) (Rose (S.faults source.old) (S.faults source.new)) out.0.code (string_bytes out.1)) }
+/// Writes a text, and answers its status, or 6 where a write failed.
+pub fn deliver<K: Sink>(sink: &mut K, status: Status, text: &[u8]) -> Status
+    ensures delivered { Delivers (side K.held K.faults sink.old sink.new) status.code text.now result.code }
+    ensures counted { K.faults sink.old ≤ K.faults sink.new }
 {
-    match read_all(alloc, source, INPUT_LIMIT) {
-        Ok(input) => answer(alloc, command, input.as_slice()),
-        Err(ReadError::ReadFault) => {
-            Ok((Status { code: 5 }, String::from_str(alloc, "read fault\n")?))
-        }
-        Err(ReadError::TooLong { .. }) => {
-            Ok((
-                Status { code: 4 },
-                String::from_str(alloc, "limit input 4194304\n")?,
-            ))
-        }
-        Err(ReadError::Memory) => Err(Memory),
+    match write_whole(sink, text) {
+        Ok(()) => status,
+        Err(_) => Status { code: 6 },
     }
 }
 
-/// The status and the text for an input that was read.
-fn answer(alloc: Global, command: Command, input: &[u8]) -> Result<(Status, String), Memory>
-    requires { length input.now ≤ input_limit }
-    ensures { IfOk result (λ out. Answers (report_of command) input.now out.0.code (string_bytes out.1)) }
+/// The name of a kind of fault, as it is printed.
+fn kind_name(kind: Kind) -> &'static str
+    ensures { result.now ≡ kind_text kind }
 {
-    match parse(alloc, input) {
-        Ok(script) => Ok((Status { code: 0 }, report(alloc, command, script)?)),
-        Err(ParseError::Fault { line, kind }) => {
-            Ok((Status { code: 3 }, fault_text(alloc, line, kind)?))
-        }
-        Err(ParseError::Limit { name, limit, .. }) => {
-            Ok((Status { code: 4 }, limit_text(alloc, name, limit)?))
-        }
-        Err(ParseError::Memory) => Err(Memory),
+    match kind {
+        Kind::Byte => "Byte",
+        Kind::Header => "Header",
+        Kind::Word => "Word",
+        Kind::Order => "Order",
+        Kind::Count => "Count",
+        Kind::Number => "Number",
+        Kind::Range => "Range",
+        Kind::Name => "Name",
+        Kind::Duplicate => "Duplicate",
+        Kind::UnknownTable => "UnknownTable",
+        Kind::Register => "Register",
+        Kind::Relation => "Relation",
+        Kind::Unended => "Unended",
     }
 }
 
-/// The report of a script.
-fn report(alloc: Global, command: Command, script: Script) -> Result<String, Memory>
-    requires { ScriptFits script }
-    ensures { IfOk result (λ text. report_of command script (string_bytes text)) }
+/// The name of a limit of the language, as it is printed.
+fn name_of_limit(name: LimitName) -> &'static str
+    ensures { result.now ≡ limit_name name }
 {
-    match command {
-        Command::Serial => serial_run(alloc, script),
-        Command::Steps => steps_run(alloc, script),
+    match name {
+        LimitName::Nodes => "nodes",
+        LimitName::Workers => "workers",
+        LimitName::Tables => "tables",
+        LimitName::Records => "records",
+        LimitName::Requests => "requests",
+        LimitName::Ops => "ops",
+        LimitName::Events => "events",
+        LimitName::Elections => "elections",
+        LimitName::Slots => "slots",
+        LimitName::Bytes => "bytes",
+        LimitName::Asks => "asks",
     }
 }

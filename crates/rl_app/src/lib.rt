@@ -1,12 +1,11 @@
 //! The commands of the program.
 #![tactic(auto)]
 
-mod answer;
+pub mod answer;
 pub mod command;
+mod input;
 mod report;
 mod run;
 pub mod serial;
-pub mod serve;
+mod serve;
 pub mod steps;
-#[cfg(test)]
-mod tests;

@@ -1,18 +1,19 @@
 //! The command `steps`: the workers of one leader, step by step.
 
-ghost use Rattle.std.specs.Prelude.{◌≡◌, OnOk, ◌<◌, ◌≤◌, ◌-◌, ◌^◌, ◌⊎◌, ℕ, List, IfOk, IfSome, IsSome, length};
+ghost use Rattle.std.specs.Prelude.{◌≡◌, ◌<◌, ◌-◌, ◌^◌, ◌⊎◌, ℕ, List, IfOk, OnOk, length};
 ghost use Rattle.std.specs.String.{string_bytes};
-ghost use Rattle.rl_io.specs.Faults.{Rose};
 ghost use Rattle.rl_script.specs.Fits.{ScriptFits};
-ghost use Rattle.rl_app.specs.Answers.{Answers, Reports, Faults, Limits, status_of};
-ghost use Rattle.rl_app.specs.Serve.{read_fault_line, memory_line, Means, Wrote, WroteFront};
 ghost use Rattle.rl_txn.specs.Serial.{rows_after};
+ghost use Rattle.rl_app.specs.Answers.{Reports};
+ghost use Rattle.rl_app.specs.Serve.{IsAnswered, Serves, side};
 ghost use Rattle.rl_app.specs.Steps.{IsStepsReport};
 
-use crate::answer::{Command, serve};
+use crate::answer::{Answer, Status};
+use crate::input::read_script;
 use crate::report::steps_report;
 use crate::run::Run;
-use crate::serve::Status;
+use crate::serve::{Command, serve};
+use rl_base::limit::SCRIPT;
 use rl_base::list::Seq;
 use rl_base::memory::Memory;
 use rl_io::sink::Sink;
@@ -26,22 +27,31 @@ use rl_worker::laws::core_serial;
 use std::alloc::Global;
 
 /// Reads a script and writes the report of its steps: one leader's workers at epoch 1 make each step of
-/// the first node in order, and every other event is passed over.
+/// the first node in order, and every other event is skipped.
 ///
 /// The statuses are those of `serial`.
 pub fn steps<S: Source, K: Sink>(alloc: Global, source: &mut S, sink: &mut K) -> Status
-    ensures report { result.code ≡ 0 → Reports IsStepsReport (S.left source.old) (S.left source.new) (K.held sink.old) (K.held sink.new) }
-    ensures fault { result.code ≡ 3 → Faults (S.left source.old) (S.left source.new) (K.held sink.old) (K.held sink.new) }
-    ensures limit { result.code ≡ 4 → Limits (S.left source.old) (S.left source.new) (K.held sink.old) (K.held sink.new) }
-    ensures read_fault { result.code ≡ 5 → Rose (S.faults source.old) (S.faults source.new) }
-    ensures read_fault_line { result.code ≡ 5 → Wrote (K.held sink.old) (K.held sink.new) read_fault_line }
-    ensures write_fault { result.code ≡ 6 → Rose (K.faults sink.old) (K.faults sink.new) }
-    ensures front { result.code ≡ 6 → (code : ℕ) × (text : List ℕ) × (Means (Answers IsStepsReport) (S.left source.old) (S.left source.new) (Rose (S.faults source.old) (S.faults source.new)) code text × WroteFront (K.held sink.old) (K.held sink.new) text) }
-    ensures memory_line { result.code ≡ 7 → Wrote (K.held sink.old) (K.held sink.new) memory_line }
-    ensures statuses { IfSome (S.left source.old) (λ input. (result.code ≡ status_of input) ⊎ (result.code ≡ 5) ⊎ (result.code ≡ 6) ⊎ (result.code ≡ 7)) }
-    ensures known { (result.code ≡ 0) ⊎ (result.code ≡ 3) ⊎ (result.code ≡ 4) ⊎ (result.code ≡ 5) ⊎ (result.code ≡ 6) ⊎ (result.code ≡ 7) }
+    ensures { Serves (Reports IsStepsReport) SCRIPT
+        (side S.left S.faults source.old source.new)
+        (side K.held K.faults sink.old sink.new)
+        result.code }
 {
-    serve(alloc, Command::Steps, source, sink)
+    serve(alloc, &mut StepsCommand, SCRIPT, source, sink)
+}
+
+/// The command.
+#[derive(Drop)]
+struct StepsCommand;
+
+impl Command for StepsCommand {
+    ghost answers = { λ _. Reports IsStepsReport };
+
+    fn answer(&mut self, alloc: Global, input: &[u8]) -> Result<Answer, Memory> {
+        match read_script(alloc, input)? {
+            Ok(script) => Ok(Answer::report(steps_run(alloc, script)?)),
+            Err(refused) => Ok(refused),
+        }
+    }
 }
 
 /// Makes the steps of a script, and answers the report.

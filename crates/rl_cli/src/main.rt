@@ -2,7 +2,7 @@
 #![tactic(auto)]
 
 use rl_app::command::rolis;
-use rl_app::serve::{Status, deliver};
+use rl_app::answer::{Status, deliver};
 use rl_io::standard_sink::StdSink;
 use rl_io::standard_source::StdSource;
 use std::alloc::AllocError;
