@@ -1,8 +1,4 @@
 pub mod Draws
+pub mod FiveWords
 pub mod Kept
-pub mod Lines
-pub mod Numbers
-pub mod Printable
-pub mod Fives
-pub mod PrintedLemmas
 pub mod ReadBack

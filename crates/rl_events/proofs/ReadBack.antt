@@ -1,50 +1,51 @@
 -- The line of an event is read as the event again.
-use Rattle.std.proofs.Common.{◌≡◌, ℕ, ◌^◌, ◌<◌, ◌≤◌, List, [], ◌∷◌, All, Ok, Err, codes, refl, ap, sym, ◌∙◌, arith, if◌then◌else◌}
+use Rattle.std.proofs.Common.{◌≡◌, ℕ, ◌-◌, ◌^◌, ◌<◌, ◌≤◌, List, [], ◌∷◌, All, Ok, Err, codes, refl, ap, sym, ◌∙◌, arith, if◌then◌else◌}
+use Rattle.std.specs.Prelude.{ok_or}
 use Rattle.std.specs.Fmt.{decimal}
+use Rattle.rl_base.specs.Results.{◌>>=◌}
+use Rattle.rl_base.specs.declared.limit.TheConstants.{EVENTS}
 use Rattle.std.proofs.lemmas.List.Elements.{All-nil, All-cons}
 use Rattle.rl_events.specs.declared.event.Event.{Event}
 use Rattle.rl_events.specs.declared.event.Event.TheVariants as event
-use Rattle.rl_events.specs.declared.kind.Kind.TheVariants.{Byte}
-use Rattle.rl_events.specs.Events.{event_in, event_of, place, random, step}
+use Rattle.rl_events.specs.declared.kind.Kind.TheVariants.{Byte, Number, Range}
+use Rattle.rl_events.specs.Events.{event_in, event_of, node_and_worker, random_event, step_event}
 use Rattle.rl_events.specs.Fits.{EventFits, IsOneOf}
-use Rattle.rl_events.specs.Printed.{event_line, event_words, line_of}
-use Rattle.rl_events.specs.Text.{words_of}
-use Rattle.rl_events.specs.Words.{◌>>=◌, within}
-use Rattle.rl_events.proofs.PrintedLemmas.{IsWord, decimal_is_word, number_decimal, positive_decimal, printable_line, within_decimal, words_of_line}
+use Rattle.rl_events.specs.Printed.{event_line, event_words}
+use Rattle.rl_events.specs.Words.{number, within}
+use Rattle.rl_text.specs.Printed.{line_of}
+use Rattle.rl_text.specs.Text.{words_of}
+use Rattle.rl_text.proofs.WordsBack.{IsWord, number_of_decimal, number_within_decimal, one_number, printable_line, three_numbers, two_numbers, words_of_line}
 
 -- a printed line is judged by its words
 pub judged_by_words : (nodes workers : ℕ) (words : List (List ℕ)) → All IsWord words → event_in nodes workers (line_of words) ≡ event_of nodes workers words
 judged_by_words nodes workers words all =
     ap (λ b. if b then event_of nodes workers (words_of (line_of words)) else Err Byte) (printable_line words all) ∙ ap (event_of nodes workers) (words_of_line words all)
 
-pub one_number : (word : List ℕ) (n : ℕ) → IsWord word → n < 2 ^ 64 → All IsWord (word ∷ decimal n ∷ [])
-one_number word n is small = All-cons IsWord word (decimal n ∷ []) is (All-cons IsWord (decimal n) [] (decimal_is_word n small) (All-nil IsWord))
+pub number_back : (n : ℕ) → n < 2 ^ 64 → number (decimal n) ≡ Ok n
+number_back n small = ap (λ o. ok_or o Number) (number_of_decimal n small)
 
-pub two_numbers : (word : List ℕ) (n m : ℕ) → IsWord word → n < 2 ^ 64 → m < 2 ^ 64 → All IsWord (word ∷ decimal n ∷ decimal m ∷ [])
-two_numbers word n m is small next = All-cons IsWord word (decimal n ∷ decimal m ∷ []) is (one_number (decimal n) m (decimal_is_word n small) next)
-
-pub three_numbers : (word : List ℕ) (n m k : ℕ) → IsWord word → n < 2 ^ 64 → m < 2 ^ 64 → k < 2 ^ 64 → All IsWord (word ∷ decimal n ∷ decimal m ∷ decimal k ∷ [])
-three_numbers word n m k is small next last = All-cons IsWord word (decimal n ∷ decimal m ∷ decimal k ∷ []) is (two_numbers (decimal n) m k (decimal_is_word n small) next last)
+pub within_back : (low high n : ℕ) → low ≤ n → n ≤ high → n < 2 ^ 64 → within low high (decimal n) ≡ Ok n
+within_back low high n above below small = number_within_decimal low high Number Range n above below small
 
 node_back : (nodes n : ℕ) → IsOneOf nodes n → n < 2 ^ 64 → within 1 nodes (decimal n) ≡ Ok n
-node_back nodes n there small = within_decimal 1 nodes n there.0 there.1 small
+node_back nodes n there small = within_back 1 nodes n there.0 there.1 small
 
-place_back : (nodes workers n w : ℕ) → IsOneOf nodes n → IsOneOf workers w → n < 2 ^ 64 → w < 2 ^ 64 → place nodes workers (decimal n) (decimal w) ≡ Ok (n, w)
-unfolding place
-place_back nodes workers n w there next small low =
+node_and_worker_back : (nodes workers n w : ℕ) → IsOneOf nodes n → IsOneOf workers w → n < 2 ^ 64 → w < 2 ^ 64 → node_and_worker nodes workers (decimal n) (decimal w) ≡ Ok (n, w)
+unfolding node_and_worker
+node_and_worker_back nodes workers n w there next small low =
     ap (λ r. r >>= λ n. within 1 workers (decimal w) >>= λ w. Ok (n, w)) (node_back nodes n there small) ∙ ap (λ r. r >>= λ w. Ok (n, w)) (node_back workers w next low)
 
-step_back : (nodes workers n w k : ℕ) → IsOneOf nodes n → IsOneOf workers w → 1 ≤ k → k ≤ 100000 → n < 2 ^ 64 → w < 2 ^ 64 → k < 2 ^ 64 → step nodes workers (decimal n) (decimal w) (decimal k) ≡ Ok (event.Step n w k)
-unfolding step
+step_back : (nodes workers n w k : ℕ) → IsOneOf nodes n → IsOneOf workers w → 1 ≤ k → k ≤ EVENTS → n < 2 ^ 64 → w < 2 ^ 64 → k < 2 ^ 64 → step_event nodes workers (decimal n) (decimal w) (decimal k) ≡ Ok (event.Step n w k)
+unfolding step_event
 step_back nodes workers n w k there next some few small low short =
-    ap (λ r. r >>= λ at. within 1 100000 (decimal k) >>= λ k. Ok (event.Step at.0 at.1 k)) (place_back nodes workers n w there next small low)
-    ∙ ap (λ r. r >>= λ k. Ok (event.Step n w k)) (within_decimal 1 100000 k some few short)
+    ap (λ r. r >>= λ at. within 1 EVENTS (decimal k) >>= λ k. Ok (event.Step at.0 at.1 k)) (node_and_worker_back nodes workers n w there next small low)
+    ∙ ap (λ r. r >>= λ k. Ok (event.Step n w k)) (within_back 1 EVENTS k some few short)
 
-random_back : (seed k : ℕ) → 1 ≤ k → k ≤ 100000 → seed < 2 ^ 64 → k < 2 ^ 64 → random (decimal seed) (decimal k) ≡ Ok (event.Random seed k)
-unfolding random
+random_back : (seed k : ℕ) → 1 ≤ k → k ≤ EVENTS → seed < 2 ^ 64 → k < 2 ^ 64 → random_event (decimal seed) (decimal k) ≡ Ok (event.Random seed k)
+unfolding random_event
 random_back seed k some few small short =
-    ap (λ r. r >>= λ seed. within 1 100000 (decimal k) >>= λ k. Ok (event.Random seed k)) (number_decimal seed small)
-    ∙ ap (λ r. r >>= λ k. Ok (event.Random seed k)) (within_decimal 1 100000 k some few short)
+    ap (λ r. r >>= λ seed. within 1 EVENTS (decimal k) >>= λ k. Ok (event.Random seed k)) (number_back seed small)
+    ∙ ap (λ r. r >>= λ k. Ok (event.Random seed k)) (within_back 1 EVENTS k some few short)
 
 -- the numbers of an event are below 2 ^ 64
 abbrev pub IsSmall : Event → Type 0
@@ -87,9 +88,9 @@ of_node nodes workers n word f is there small same =
     judged_by_words nodes workers (word ∷ decimal n ∷ []) (one_number word n is small) ∙ same ∙ ap (λ r. r >>= λ n. Ok (f n)) (node_back nodes n there small)
 
 -- the line of a word, a node, and one of its workers or streams
-of_place : (nodes workers n w : ℕ) (word : List ℕ) (f : ℕ → ℕ → Event) → IsWord word → IsOneOf nodes n → IsOneOf workers w → n < 2 ^ 64 → w < 2 ^ 64 → event_of nodes workers (word ∷ decimal n ∷ decimal w ∷ []) ≡ (place nodes workers (decimal n) (decimal w) >>= λ at. Ok (f at.0 at.1)) → event_in nodes workers (line_of (word ∷ decimal n ∷ decimal w ∷ [])) ≡ Ok (f n w)
+of_place : (nodes workers n w : ℕ) (word : List ℕ) (f : ℕ → ℕ → Event) → IsWord word → IsOneOf nodes n → IsOneOf workers w → n < 2 ^ 64 → w < 2 ^ 64 → event_of nodes workers (word ∷ decimal n ∷ decimal w ∷ []) ≡ (node_and_worker nodes workers (decimal n) (decimal w) >>= λ at. Ok (f at.0 at.1)) → event_in nodes workers (line_of (word ∷ decimal n ∷ decimal w ∷ [])) ≡ Ok (f n w)
 of_place nodes workers n w word f is there next small low same =
-    judged_by_words nodes workers (word ∷ decimal n ∷ decimal w ∷ []) (two_numbers word n w is small low) ∙ same ∙ ap (λ r. r >>= λ at. Ok (f at.0 at.1)) (place_back nodes workers n w there next small low)
+    judged_by_words nodes workers (word ∷ decimal n ∷ decimal w ∷ []) (two_numbers word n w is small low) ∙ same ∙ ap (λ r. r >>= λ at. Ok (f at.0 at.1)) (node_and_worker_back nodes workers n w there next small low)
 
 pub reads_back : (nodes workers : ℕ) (e : Event) → IsSmall e → EventFits nodes workers e → event_in nodes workers (event_line e) ≡ Ok e
 reads_back nodes workers (event.Step n w k) small fits =
@@ -98,9 +99,9 @@ reads_back nodes workers (event.Step n w k) small fits =
 reads_back nodes workers (event.Flush n w) small fits = of_place nodes workers n w (codes "flush") event.Flush (omega arith, refl) fits.0 fits.1 small.0 small.1 refl
 reads_back nodes workers (event.Idle n w) small fits = of_place nodes workers n w (codes "idle") event.Idle (omega arith, refl) fits.0 fits.1 small.0 small.1 refl
 reads_back nodes workers (event.Dlv k) small fits =
-    judged_by_words nodes workers (codes "dlv" ∷ decimal k ∷ []) (one_number (codes "dlv") k (omega arith, refl) small) ∙ ap (λ r. r >>= λ k. Ok (event.Dlv k)) (positive_decimal k fits.0 small)
+    judged_by_words nodes workers (codes "dlv" ∷ decimal k ∷ []) (one_number (codes "dlv") k (omega arith, refl) small) ∙ ap (λ r. r >>= λ k. Ok (event.Dlv k)) (within_back 1 (2 ^ 64 - 1) k fits.0 (omega arith) small)
 reads_back nodes workers (event.Discard k) small fits =
-    judged_by_words nodes workers (codes "drop" ∷ decimal k ∷ []) (one_number (codes "drop") k (omega arith, refl) small) ∙ ap (λ r. r >>= λ k. Ok (event.Discard k)) (number_decimal k small)
+    judged_by_words nodes workers (codes "drop" ∷ decimal k ∷ []) (one_number (codes "drop") k (omega arith, refl) small) ∙ ap (λ r. r >>= λ k. Ok (event.Discard k)) (number_back k small)
 reads_back nodes workers event.All small fits = refl
 reads_back nodes workers (event.Elect n) small fits = of_node nodes workers n (codes "elect") event.Elect (omega arith, refl) fits small refl
 reads_back nodes workers (event.Tick n) small fits = of_node nodes workers n (codes "tick") event.Tick (omega arith, refl) fits small refl

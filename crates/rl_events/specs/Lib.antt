@@ -2,5 +2,4 @@ pub mod Events
 pub mod Expanded
 pub mod Fits
 pub mod Printed
-pub mod Text
 pub mod Words

@@ -1,16 +1,12 @@
--- The one printed form of a line, and of an event.
+-- The one printed form of an event.
 use Rattle.std.specs.Prelude.{ℕ, List, [], ◌∷◌, codes}
-use Rattle.std.specs.List.{join_with_byte}
 use Rattle.std.specs.Fmt.{decimal}
+use Rattle.rl_text.specs.Printed.{Line, line_of}
 use Rattle.rl_events.specs.declared.event.Event.{Event}
 use Rattle.rl_events.specs.declared.event.Event.TheVariants as event
 
--- a line of some words, with one space between two of them
-abbrev pub line_of : List (List ℕ) → List ℕ
-line_of words = join_with_byte 32 words
-
 -- the words of an event
-abbrev pub event_words : Event → List (List ℕ)
+abbrev pub event_words : Event → Line
 event_words (event.Step n w k) = codes "step" ∷ decimal n ∷ decimal w ∷ decimal k ∷ []
 event_words (event.Flush n w) = codes "flush" ∷ decimal n ∷ decimal w ∷ []
 event_words (event.Idle n w) = codes "idle" ∷ decimal n ∷ decimal w ∷ []

@@ -40,9 +40,6 @@ pub enum Event {
     Random { seed: u64, count: u32 },
 }
 
-/// How many events a script may have, as they count.
-pub const MOST_EVENTS: u32 = 100000;
-
 /// The events of a script.
 pub type Events = Seq<Event>;
 

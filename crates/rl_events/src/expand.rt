@@ -7,9 +7,10 @@ ghost use Rattle.rand_core.specs.Stream.{next_u32};
 ghost use Rattle.rl_events.specs.Expanded.{event_of_choice, drawn_event, expanded, IsNotRandom};
 ghost use Rattle.rl_events.specs.Fits.{EventFits, count_of, elections_of};
 
-use crate::event::{Event, Events, MOST_EVENTS};
+use crate::event::{Event, Events};
 use rand_core::{Rng, SeedableRng};
 use rand_pcg::Lcg64Xsh32;
+use rl_base::limit::EVENTS;
 use rl_base::memory::Memory;
 use std::alloc::Global;
 use thiserror::Error;
@@ -38,9 +39,9 @@ impl From<Memory> for ExpandError {
 
 /// Whether the events count as more than a script may have.
 fn are_too_many(events: &[Event]) -> bool
-    ensures { IsTrue result ↔ (100000 < sum_by count_of events.now) }
+    ensures { IsTrue result ↔ (EVENTS < sum_by count_of events.now) }
 {
-    let mut room = MOST_EVENTS;
+    let mut room = EVENTS;
     for event in events {
         let count = event.count();
         if count > room {
@@ -93,13 +94,11 @@ fn push_drawn<R: Rng>(
 ) -> Result<(), Memory>
     requires nodes { 1 ≤ nodes }
     requires workers { 1 ≤ workers }
-    ensures { OnOk result (events.new ≡ events.old ++ map (drawn_event nodes workers) (first_words next_u32 count (R.stream rng.old))) }
+    ensures { let words = first_words next_u32 count (R.stream rng.old) in
+        OnOk result (events.new ≡ events.old ++ map (drawn_event nodes workers) words) }
 {
-    let mut left = count;
-    'draws: while left > 0 {
-        let word = rng.next_u32();
-        events.push(drawn_event(word, nodes, workers))?;
-        left -= 1;
+    'draws: for draw in 0..count {
+        events.push(drawn_event(rng.next_u32(), nodes, workers))?;
     }
     Ok(())
 }
@@ -151,15 +150,15 @@ pub fn expand(
     requires nodes { 1 ≤ nodes }
     requires workers { 1 ≤ workers }
     ensures expanded { IfOk result (λ list. list ≡ flat_map (expanded nodes workers) events.now) }
-    ensures too_many { IsErrOf result (ExpandError.TooManyEvents 100000) ↔ (100000 < sum_by count_of events.now) }
-    ensures the_limit { (n : ℕ) → IsErrOf result (ExpandError.TooManyEvents n) → n ≡ 100000 }
+    ensures too_many { IsErrOf result (ExpandError.TooManyEvents EVENTS) ↔ (EVENTS < sum_by count_of events.now) }
+    ensures the_limit { (n : ℕ) → IsErrOf result (ExpandError.TooManyEvents n) → n ≡ EVENTS }
     ensures not_random { IfOk result (λ list. All IsNotRandom list) }
     ensures fits { All (EventFits nodes workers) events.now → IfOk result (λ list. All (EventFits nodes workers) list) }
     ensures counted { IfOk result (λ list. sum_by count_of list ≡ sum_by count_of events.now) }
     ensures elections { IfOk result (λ list. sum_by elections_of list ≡ sum_by elections_of events.now) }
 {
     if are_too_many(events.as_slice()) {
-        return Err(ExpandError::TooManyEvents { limit: MOST_EVENTS });
+        return Err(ExpandError::TooManyEvents { limit: EVENTS });
     }
     Ok(written_out(alloc, events, nodes, workers)?)
 }

@@ -1,4 +1,4 @@
-//! Events of a script, and the words that all lines of a script are made of.
+//! Events of a script, and the lines that say them.
 #![tactic(auto)]
 
 pub mod event;
@@ -6,7 +6,4 @@ pub mod expand;
 pub mod kind;
 pub mod line;
 pub mod printed;
-#[cfg(test)]
-mod tests;
-pub mod text;
 pub mod word;

@@ -1,13 +1,14 @@
 //! Lines that say an event.
 
-ghost use Rattle.std.specs.Prelude.{◌≡◌, ℕ, map, MatchResult, Ok, Err, IfOk};
-ghost use Rattle.rl_events.specs.Events.{event_word, node_in, place, place_in, step, step_in, dlv_in, discard_in, all_in, random, random_in, read_event, event_of, event_in};
+ghost use Rattle.std.specs.Prelude.{◌≡◌, ℕ, [], ◌∷◌, map, MatchResult, Ok, Err, IfOk};
+ghost use Rattle.rl_events.specs.Events.{event_word, node_and_worker, step_event, random_event, read_event, event_of, event_in};
 ghost use Rattle.rl_events.specs.Fits.{IsOneOf, EventFits};
 
 use crate::event::Event;
 use crate::kind::Kind;
-use crate::text::{first_words, printable};
 use crate::word::{number, positive, within};
+use rl_base::limit::EVENTS;
+use rl_text::text::{first_words, printable};
 use thiserror::Error;
 
 /// Which event a line is.
@@ -77,21 +78,10 @@ pub fn event_word(word: &str) -> Option<EventWord>
     }
 }
 
-/// `N`, a node
-fn node_in(words: &[&str], nodes: u32) -> Result<u32, Kind>
-    ensures node { result ≡ node_in nodes (map (λ w. w.now) words.now) }
-    ensures there { IfOk result (λ n. IsOneOf nodes n) }
-{
-    match words {
-        [node] => within(1, nodes, node),
-        _ => Err(Kind::Count),
-    }
-}
-
 /// A node, and one of its workers or streams.
-#[tactic(auto, unfolding(crate::specs::Events::place))]
-fn place(node: &str, worker: &str, nodes: u32, workers: u32) -> Result<(u32, u32), Kind>
-    ensures place { result ≡ place nodes workers node.now worker.now }
+#[tactic(auto, unfolding(crate::specs::Events::node_and_worker))]
+fn node_and_worker(node: &str, worker: &str, nodes: u32, workers: u32) -> Result<(u32, u32), Kind>
+    ensures place { result ≡ node_and_worker nodes workers node.now worker.now }
     ensures node { IfOk result (λ at. IsOneOf nodes at.0) }
     ensures worker { IfOk result (λ at. IsOneOf workers at.1) }
 {
@@ -100,26 +90,20 @@ fn place(node: &str, worker: &str, nodes: u32, workers: u32) -> Result<(u32, u32
     Ok((node, worker))
 }
 
-/// `N W`
-fn place_in(words: &[&str], nodes: u32, workers: u32) -> Result<(u32, u32), Kind>
-    ensures place { result ≡ place_in nodes workers (map (λ w. w.now) words.now) }
-    ensures node { IfOk result (λ at. IsOneOf nodes at.0) }
-    ensures worker { IfOk result (λ at. IsOneOf workers at.1) }
-{
-    match words {
-        [node, worker] => place(node, worker, nodes, workers),
-        _ => Err(Kind::Count),
-    }
-}
-
 /// `step N W K`
-#[tactic(auto, unfolding(crate::specs::Events::step))]
-fn step(node: &str, worker: &str, count: &str, nodes: u32, workers: u32) -> Result<Event, Kind>
-    ensures event { result ≡ step nodes workers node.now worker.now count.now }
+#[tactic(auto, unfolding(crate::specs::Events::step_event))]
+fn step_event(
+    node: &str,
+    worker: &str,
+    count: &str,
+    nodes: u32,
+    workers: u32,
+) -> Result<Event, Kind>
+    ensures event { result ≡ step_event nodes workers node.now worker.now count.now }
     ensures fits { IfOk result (λ event. EventFits nodes workers event) }
 {
-    let (node, worker) = place(node, worker, nodes, workers)?;
-    let count = within(1, 100000, count)?;
+    let (node, worker) = node_and_worker(node, worker, nodes, workers)?;
+    let count = within(1, EVENTS, count)?;
     Ok(Event::Step {
         node,
         worker,
@@ -128,69 +112,87 @@ fn step(node: &str, worker: &str, count: &str, nodes: u32, workers: u32) -> Resu
 }
 
 /// `random S K`
-#[tactic(auto, unfolding(crate::specs::Events::random))]
-fn random(seed: &str, count: &str) -> Result<Event, Kind>
-    ensures event { result ≡ random seed.now count.now }
+#[tactic(auto, unfolding(crate::specs::Events::random_event))]
+fn random_event(seed: &str, count: &str) -> Result<Event, Kind>
+    ensures event { result ≡ random_event seed.now count.now }
     ensures fits { (nodes workers : ℕ) → IfOk result (λ event. EventFits nodes workers event) }
 {
     let seed = number(seed)?;
-    let count = within(1, 100000, count)?;
+    let count = within(1, EVENTS, count)?;
     Ok(Event::Random { seed, count })
 }
 
-/// The line `step`, without its first word.
-fn step_in(words: &[&str], nodes: u32, workers: u32) -> Result<Event, Kind>
-    ensures event { result ≡ step_in nodes workers (map (λ w. w.now) words.now) }
+/// The event of a word and no more.
+fn event_of_none(word: EventWord, nodes: u32, workers: u32) -> Result<Event, Kind>
+    ensures event { result ≡ read_event nodes workers word [] }
     ensures fits { IfOk result (λ event. EventFits nodes workers event) }
 {
-    match words {
-        [node, worker, count] => step(node, worker, count, nodes, workers),
+    match word {
+        EventWord::All => Ok(Event::All),
         _ => Err(Kind::Count),
     }
 }
 
-/// The line `random`, without its first word.
-fn random_in(words: &[&str]) -> Result<Event, Kind>
-    ensures event { result ≡ random_in (map (λ w. w.now) words.now) }
-    ensures fits { (nodes workers : ℕ) → IfOk result (λ event. EventFits nodes workers event) }
+/// The event of a word and one more, a number or a node.
+fn event_of_one(word: EventWord, n: &str, nodes: u32, workers: u32) -> Result<Event, Kind>
+    ensures event { result ≡ read_event nodes workers word (n.now ∷ []) }
+    ensures fits { IfOk result (λ event. EventFits nodes workers event) }
 {
-    match words {
-        [seed, count] => random(seed, count),
+    match word {
+        EventWord::Dlv => Ok(Event::Dlv {
+            number: positive(n)?,
+        }),
+        EventWord::Discard => Ok(Event::Discard { number: number(n)? }),
+        EventWord::Elect => Ok(Event::Elect {
+            node: within(1, nodes, n)?,
+        }),
+        EventWord::Tick => Ok(Event::Tick {
+            node: within(1, nodes, n)?,
+        }),
+        EventWord::Crash => Ok(Event::Crash {
+            node: within(1, nodes, n)?,
+        }),
+        EventWord::Back => Ok(Event::Back {
+            node: within(1, nodes, n)?,
+        }),
+        EventWord::Lose => Ok(Event::Lose {
+            node: within(1, nodes, n)?,
+        }),
+        EventWord::PlayAll => Ok(Event::PlayAll {
+            node: within(1, nodes, n)?,
+        }),
+        EventWord::Show => Ok(Event::Show {
+            node: within(1, nodes, n)?,
+        }),
         _ => Err(Kind::Count),
     }
 }
 
-/// The line `dlv`, without its first word.
-fn dlv_in(words: &[&str]) -> Result<Event, Kind>
-    ensures event { result ≡ dlv_in (map (λ w. w.now) words.now) }
-    ensures fits { (nodes workers : ℕ) → IfOk result (λ event. EventFits nodes workers event) }
+/// The event of a word and two more.
+fn event_of_two(
+    word: EventWord,
+    a: &str,
+    b: &str,
+    nodes: u32,
+    workers: u32,
+) -> Result<Event, Kind>
+    ensures event { result ≡ read_event nodes workers word (a.now ∷ b.now ∷ []) }
+    ensures fits { IfOk result (λ event. EventFits nodes workers event) }
 {
-    let [number] = words else {
-        return Err(Kind::Count);
-    };
-    let number = positive(number)?;
-    Ok(Event::Dlv { number })
-}
-
-/// The line `drop`, without its first word.
-fn discard_in(words: &[&str]) -> Result<Event, Kind>
-    ensures event { result ≡ discard_in (map (λ w. w.now) words.now) }
-    ensures fits { (nodes workers : ℕ) → IfOk result (λ event. EventFits nodes workers event) }
-{
-    let [word] = words else {
-        return Err(Kind::Count);
-    };
-    let number = number(word)?;
-    Ok(Event::Discard { number })
-}
-
-/// The line `all`, without its first word.
-fn all_in(words: &[&str]) -> Result<Event, Kind>
-    ensures event { result ≡ all_in (map (λ w. w.now) words.now) }
-    ensures fits { (nodes workers : ℕ) → IfOk result (λ event. EventFits nodes workers event) }
-{
-    match words {
-        [] => Ok(Event::All),
+    match word {
+        EventWord::Flush => {
+            let (node, worker) = node_and_worker(a, b, nodes, workers)?;
+            Ok(Event::Flush { node, worker })
+        }
+        EventWord::Idle => {
+            let (node, worker) = node_and_worker(a, b, nodes, workers)?;
+            Ok(Event::Idle { node, worker })
+        }
+        EventWord::Play => {
+            let (node, stream) = node_and_worker(a, b, nodes, workers)?;
+            Ok(Event::Play { node, stream })
+        }
+        EventWord::Random => random_event(a, b),
         _ => Err(Kind::Count),
     }
 }
@@ -203,45 +205,14 @@ pub fn read_event(word: EventWord, words: &[&str], nodes: u32, workers: u32) -> 
     ensures event { result ≡ read_event nodes workers word (map (λ w. w.now) words.now) }
     ensures fits { IfOk result (λ event. EventFits nodes workers event) }
 {
-    match word {
-        EventWord::Step => step_in(words, nodes, workers),
-        EventWord::Flush => {
-            let (node, worker) = place_in(words, nodes, workers)?;
-            Ok(Event::Flush { node, worker })
+    match words {
+        [] => event_of_none(word, nodes, workers),
+        [n] => event_of_one(word, n, nodes, workers),
+        [a, b] => event_of_two(word, a, b, nodes, workers),
+        [node, worker, count] if word == EventWord::Step => {
+            step_event(node, worker, count, nodes, workers)
         }
-        EventWord::Idle => {
-            let (node, worker) = place_in(words, nodes, workers)?;
-            Ok(Event::Idle { node, worker })
-        }
-        EventWord::Play => {
-            let (node, stream) = place_in(words, nodes, workers)?;
-            Ok(Event::Play { node, stream })
-        }
-        EventWord::Dlv => dlv_in(words),
-        EventWord::Discard => discard_in(words),
-        EventWord::All => all_in(words),
-        EventWord::Random => random_in(words),
-        EventWord::Elect => Ok(Event::Elect {
-            node: node_in(words, nodes)?,
-        }),
-        EventWord::Tick => Ok(Event::Tick {
-            node: node_in(words, nodes)?,
-        }),
-        EventWord::Crash => Ok(Event::Crash {
-            node: node_in(words, nodes)?,
-        }),
-        EventWord::Back => Ok(Event::Back {
-            node: node_in(words, nodes)?,
-        }),
-        EventWord::Lose => Ok(Event::Lose {
-            node: node_in(words, nodes)?,
-        }),
-        EventWord::PlayAll => Ok(Event::PlayAll {
-            node: node_in(words, nodes)?,
-        }),
-        EventWord::Show => Ok(Event::Show {
-            node: node_in(words, nodes)?,
-        }),
+        _ => Err(Kind::Count),
     }
 }
 

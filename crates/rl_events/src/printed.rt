@@ -11,12 +11,20 @@ use rl_base::list::Bytes;
 use rl_base::memory::Memory;
 use std::alloc::{AllocError, Global};
 
-/// Appends the line of an event, without a line end. It is read as the event again, where its nodes
-/// and workers are there and its numbers in range.
-#[tactic(auto, using(crate::proofs::ReadBack::reads_back))]
+/// Appends the line of an event, without a line end.
 pub fn push_event(out: &mut String, event: &Event) -> Result<(), AllocError>
+    ensures { OnOk result (string_bytes out.new ≡ string_bytes out.old ++ event_line event.now) }
+{
+    push_line(out, event)
+}
+
+/// Appends the line of an event. It is read as the event again, where its nodes and workers are
+/// there and its numbers in range.
+#[tactic(auto, using(crate::proofs::ReadBack::reads_back))]
+fn push_line(out: &mut String, event: &Event) -> Result<(), AllocError>
     ensures text { OnOk result (string_bytes out.new ≡ string_bytes out.old ++ event_line event.now) }
-    ensures read { (nodes workers : ℕ) → EventFits nodes workers event.now → event_in nodes workers (event_line event.now) ≡ Ok event.now }
+    ensures read { (nodes workers : ℕ) → EventFits nodes workers event.now
+        → event_in nodes workers (event_line event.now) ≡ Ok event.now }
 {
     match *event {
         Event::Step {
@@ -45,9 +53,10 @@ pub fn push_event(out: &mut String, event: &Event) -> Result<(), AllocError>
 /// nodes and workers are there and its numbers in range.
 pub fn print_event(alloc: Global, event: &Event) -> Result<Bytes, Memory>
     ensures text { IfOk result (λ line. line ≡ event_line event.now) }
-    ensures read { IfOk result (λ line. (nodes workers : ℕ) → EventFits nodes workers event.now → event_in nodes workers line ≡ Ok event.now) }
+    ensures read { IfOk result (λ line. (nodes workers : ℕ) → EventFits nodes workers event.now
+        → event_in nodes workers line ≡ Ok event.now) }
 {
     let mut out = String::new(alloc);
-    push_event(&mut out, event)?;
+    push_line(&mut out, event)?;
     Ok(Bytes::from_vec(out.into_bytes()))
 }

@@ -14,46 +14,6 @@ use Rattle.rl_script.specs.Printed.{Line, event_lines, header_line, list_lines, 
 use Rattle.rl_script.specs.declared.script.Script.{Script}
 use Rattle.rl_txn.proofs.Folds.{range_push}
 
--- each word after the first comes after a space
-line_by_words : (word : List ℕ) (words : List (List ℕ)) → line_of (word ∷ words) ≡ word ++ flat_map (λ w. 32 ∷ w) words
-line_by_words word [] = sym (append-nil word)
-line_by_words word (next ∷ words) = ap (λ t. word ++ 32 ∷ t) (line_by_words next words)
-
--- a line that goes on with words
-pub line_more : {A : Type 0} (word_of : A → List ℕ) → (first : List ℕ) (words : List (List ℕ)) (xs : List A) (before old new : List ℕ) → old ≡ before ++ line_of (first ∷ words) → new ≡ old ++ flat_map (λ x. 32 ∷ word_of x) xs → new ≡ before ++ line_of (first ∷ words ++ map word_of xs)
-line_more word_of first words xs before old new is more =
-    let rest : flat_map (λ w. 32 ∷ w) (words ++ map word_of xs) ≡ flat_map (λ w. 32 ∷ w) words ++ flat_map (λ x. 32 ∷ word_of x) xs =
-    flat_map-append (λ w. 32 ∷ w) words (map word_of xs) ∙ ap (λ t. flat_map (λ w. 32 ∷ w) words ++ t) (flat_map-map (λ w. 32 ∷ w) word_of xs) in
-    let whole : line_of (first ∷ words ++ map word_of xs) ≡ line_of (first ∷ words) ++ flat_map (λ x. 32 ∷ word_of x) xs =
-    line_by_words first (words ++ map word_of xs) ∙ ap (λ t. first ++ t) rest
-    ∙ sym (append_assoc first (flat_map (λ w. 32 ∷ w) words) (flat_map (λ x. 32 ∷ word_of x) xs))
-    ∙ ap (λ t. t ++ flat_map (λ x. 32 ∷ word_of x) xs) (sym (line_by_words first words)) in
-    more ∙ ap (λ t. t ++ flat_map (λ x. 32 ∷ word_of x) xs) is ∙ append_assoc before (line_of (first ∷ words)) (flat_map (λ x. 32 ∷ word_of x) xs)
-    ∙ ap (λ t. before ++ t) (sym whole)
-
-text_of-append : (xs ys : List Line) → text_of (xs ++ ys) ≡ text_of xs ++ text_of ys
-text_of-append xs ys = flat_map-append (λ words. line_of words ++ 10 ∷ []) xs ys
-
--- a text that goes on with lines
-pub text_joined : (xs ys zs : List Line) (before old new : List ℕ) → zs ≡ xs ++ ys → old ≡ before ++ text_of xs → new ≡ old ++ text_of ys → new ≡ before ++ text_of zs
-text_joined xs ys zs before old new same is more =
-    more ∙ ap (λ t. t ++ text_of ys) is ∙ append_assoc before (text_of xs) (text_of ys) ∙ ap (λ t. before ++ t) (sym (text_of-append xs ys) ∙ ap text_of (sym same))
-
--- a text of a line for each thing, after the last
-pub lines_done : {X : Type 0} (f : X → Line) → (xs items : List X) (i : ℕ) (before new : List ℕ) → items ≡ xs → length items ≤ i → new ≡ before ++ flat_map (λ x. line_of (f x) ++ 10 ∷ []) (take i items) → new ≡ before ++ text_of (map f xs)
-lines_done f xs items i before new same past is =
-    is ∙ ap (λ ys. before ++ flat_map (λ x. line_of (f x) ++ 10 ∷ []) ys) (take_all i items past ∙ same) ∙ ap (λ t. before ++ t) (sym (flat_map-map (λ words. line_of words ++ 10 ∷ []) f xs))
-
--- the text of the lines that each thing has
-pub text_by_part : {X : Type 0} (f : X → List Line) → (xs : List X) → text_of (flat_map f xs) ≡ flat_map (λ x. text_of (f x)) xs
-text_by_part f [] = refl
-text_by_part f (x ∷ xs) = text_of-append (f x) (flat_map f xs) ∙ ap (λ t. text_of (f x) ++ t) (text_by_part f xs)
-
--- a text of some lines for each thing, after the last
-pub parts_done : {X : Type 0} (f : X → List Line) → (xs items : List X) (i : ℕ) (before new : List ℕ) → items ≡ xs → length items ≤ i → new ≡ before ++ flat_map (λ x. text_of (f x)) (take i items) → new ≡ before ++ text_of (flat_map f xs)
-parts_done f xs items i before new same past is =
-    is ∙ ap (λ ys. before ++ flat_map (λ x. text_of (f x)) ys) (take_all i items past ∙ same) ∙ ap (λ t. before ++ t) (sym (text_by_part f xs))
-
 -- lines that go on with those of the next number
 pub text_over_range : (f : ℕ → List Line) (n : ℕ) (before old new : List ℕ) → old ≡ before ++ text_of (flat_map f (range_with_len 0 n)) → new ≡ old ++ text_of (f n) → new ≡ before ++ text_of (flat_map f (range_with_len 0 (n + 1)))
 text_over_range f n before old new is more =

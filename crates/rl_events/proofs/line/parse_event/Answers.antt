@@ -1,4 +1,4 @@
-use Rattle.rl_events.proofs.Fives.{parsed}
+use Rattle.rl_events.proofs.FiveWords.{parsed}
 use Rattle.rl_events.proofs.line.parse_event.Goals as goal
 
 pub returns-in-Ok-clause-event : goal.returns-in-Ok-clause-event

@@ -1,7 +1,7 @@
 use Rattle.std.proofs.Common.{length, ◌==◌, rules, tests, not, lit<}
 use Rattle.std.proofs.lemmas.Iterator.Consumers.{map_from_collect, YieldsList-from_filter}
 use Rattle.std.proofs.lemmas.Iterator.Splits.{YieldsList-from_str_split}
-use Rattle.rl_events.proofs.text.words.Goals as goal
+use Rattle.rl_text.proofs.text.words.Goals as goal
 
 pub returns : goal.returns
 returns c =

@@ -1,8 +1,8 @@
 use Rattle.std.proofs.Common.{rules, arith, sym, ◌∙◌, map, take, ◌≡◌, ◌<◌, ◌==◌, false, length}
 use Rattle.std.proofs.lemmas.List.{length-map, length-take-le, length-set}
-use Rattle.rl_events.proofs.Fives.{go_on, more_words, first_five, no_bytes}
-use Rattle.rl_events.proofs.text.first_words.Goals as goal
-use Rattle.rl_events.proofs.text.first_words.Goals.{then-words-test+else-not-is_empty, else-words-test}
+use Rattle.rl_text.proofs.FirstWords.{go_on, more_words, first_five, no_bytes}
+use Rattle.rl_text.proofs.text.first_words.Goals as goal
+use Rattle.rl_text.proofs.text.first_words.Goals.{then-words-test+else-not-is_empty, else-words-test}
 
 pub words-preserved-then-not-is_empty-2 : goal.words-preserved-then-not-is_empty-2
 words-preserved-then-not-is_empty-2 c =

@@ -1,8 +1,8 @@
 use Rattle.std.proofs.Common.{◌≡◌, ◌≤◌, ◌++◌, length, map, take}
 use denote.Text.{Utf8}
 use denote.Shadow.{shadow}
-use Rattle.rl_events.specs.Text.{words_of}
-use Rattle.rl_events.proofs.text.first_words.Given as goal
+use Rattle.rl_text.specs.Text.{words_of}
+use Rattle.rl_text.proofs.text.first_words.Given as goal
 
 abbrev pub invariant-words : goal.invariant-words
 invariant-words l =

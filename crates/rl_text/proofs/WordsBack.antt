@@ -1,20 +1,19 @@
--- Reading a printed line gives its words back.
+-- Splitting printed lines into words gives the words back.
 use Rattle.std.proofs.Common.{◌≡◌, ℕ, ◌^◌, ◌<◌, ◌≤◌, ◌==◌, ◌&&◌, not, Bool, true, false, List, [], ◌∷◌, ◌++◌, All, filter, length, map, get_or, Some, Ok, refl, ap, ◌∙◌, arith, zero, suc}
 use Rattle.std.specs.Prelude.{nat_le}
-use Rattle.std.specs.List.{list_all, slice_split, flat_map}
+use Rattle.std.specs.List.{list_all, slice_split}
 use Rattle.std.specs.Fmt.{decimal}
 use Rattle.std.proofs.lemmas.Bool.Decides.{nat_tests}
 use Rattle.std.proofs.lemmas.Fmt.{digits_decimal, digits_value-decimal, decimal_nonempty, first_decimal, decimal_digit, length-decimal-le}
 use Rattle.std.proofs.lemmas.List.{append_assoc}
-use Rattle.std.proofs.lemmas.List.Elements.{All-head, All-tail}
+use Rattle.std.proofs.lemmas.List.Elements.{All-cons, All-head, All-nil, All-tail}
 use Rattle.std.proofs.lemmas.List.Folds.{list_all-append}
 use Rattle.std.proofs.lemmas.List.Splits.{slice_split_at, slice_split_none, length-slice_split}
 use Rattle.std.proofs.lemmas.Str.Parse.{IsNumeralModel, IsDigitsTest, numerals_by_fold}
-use Rattle.rl_events.specs.Printed.{line_of}
-use Rattle.rl_events.specs.Text.{is_digit, is_plain, is_printable, lines_of, lines_of_pieces, number_of, value_onto, words_of}
-use Rattle.rl_events.specs.Words.{number, or_fault, positive, within}
-use Rattle.rl_events.specs.declared.kind.Kind.TheVariants.{Number}
-use Rattle.rl_events.proofs.Lines.{more}
+use Rattle.rl_text.specs.Numbers.{IsNumber, is_digit, is_plain, number_of, number_within, value_onto}
+use Rattle.rl_text.specs.Printed.{Line, line_of, text_of}
+use Rattle.rl_text.specs.Text.{is_printable, lines_of, lines_of_pieces, words_of}
+use Rattle.rl_text.proofs.Lines.{more}
 
 -- bytes that are seen: printable, and no space
 abbrev pub is_seen : ℕ → Bool
@@ -80,10 +79,10 @@ line_in_front line text h =
     ap (slice_split (λ b. b == 10)) (append_assoc line (10 ∷ []) text) ∙ slice_split_at (λ b. b == 10) line 10 text (inside_one_line 10 (omega arith) line h) refl in
     ap lines_of_pieces cut ∙ more line (slice_split (λ b. b == 10) text) (omega (arith, length-slice_split (λ b. b == 10) text))
 
-pub lines_of_text : (lines : List (List (List ℕ))) → All (All IsWord) lines → lines_of (flat_map (λ words. line_of words ++ 10 ∷ []) lines) ≡ map line_of lines
+pub lines_of_text : (lines : List Line) → All (All IsWord) lines → lines_of (text_of lines) ≡ map line_of lines
 lines_of_text [] all = refl
 lines_of_text (words ∷ lines) all =
-    line_in_front (line_of words) (flat_map (λ words. line_of words ++ 10 ∷ []) lines) (printable_line words (All-head (All IsWord) words lines all))
+    line_in_front (line_of words) (text_of lines) (printable_line words (All-head (All IsWord) words lines all))
     ∙ ap (λ ls. line_of words ∷ ls) (lines_of_text lines (All-tail (All IsWord) words lines all))
 
 -- the number that a printed number is
@@ -125,13 +124,30 @@ number_of_decimal n small =
     number_by (decimal n) n (plain_by (decimal n) (digits_decimal digits_read n small) (decimal_nonempty n small) (one_digit n small))
     (length-decimal-le 20 n (omega arith) (omega arith) small) small (digits_value-decimal digits_read n small)
 
-pub number_decimal : (n : ℕ) → n < 2 ^ 64 → number (decimal n) ≡ Ok n
-number_decimal n small = ap (or_fault Number) (number_of_decimal n small)
+pub number_within_decimal : {E : Type 0} (low high : ℕ) (none out : E) (n : ℕ) → low ≤ n → n ≤ high → n < 2 ^ 64 → number_within low high none out (decimal n) ≡ Ok n
+unfolding number_within
+number_within_decimal low high none out n above below small =
+    let is = number_of_decimal n small in grind (arith, nat_tests)
 
-pub within_decimal : (low high n : ℕ) → low ≤ n → n ≤ high → n < 2 ^ 64 → within low high (decimal n) ≡ Ok n
-unfolding within
-within_decimal low high n above below small = let is = number_decimal n small in grind (arith, nat_tests)
+-- the words of some numbers
 
-pub positive_decimal : (n : ℕ) → 1 ≤ n → n < 2 ^ 64 → positive (decimal n) ≡ Ok n
-unfolding positive
-positive_decimal n above small = let is = number_decimal n small in grind (arith, nat_tests)
+pub one_word : (word : List ℕ) → IsWord word → All IsWord (word ∷ [])
+one_word word is = All-cons IsWord word [] is (All-nil IsWord)
+
+pub one_number : (word : List ℕ) (n : ℕ) → IsWord word → n < 2 ^ 64 → All IsWord (word ∷ decimal n ∷ [])
+one_number word n is small = All-cons IsWord word (decimal n ∷ []) is (one_word (decimal n) (decimal_is_word n small))
+
+pub two_numbers : (word : List ℕ) (n m : ℕ) → IsWord word → n < 2 ^ 64 → m < 2 ^ 64 → All IsWord (word ∷ decimal n ∷ decimal m ∷ [])
+two_numbers word n m is small next = All-cons IsWord word (decimal n ∷ decimal m ∷ []) is (one_number (decimal n) m (decimal_is_word n small) next)
+
+pub three_numbers : (word : List ℕ) (n m k : ℕ) → IsWord word → n < 2 ^ 64 → m < 2 ^ 64 → k < 2 ^ 64 → All IsWord (word ∷ decimal n ∷ decimal m ∷ decimal k ∷ [])
+three_numbers word n m k is small next last = All-cons IsWord word (decimal n ∷ decimal m ∷ decimal k ∷ []) is (two_numbers (decimal n) m k (decimal_is_word n small) next last)
+
+-- words that things are printed as
+pub each_is_word : {A : Type 0} → (word_of : A → List ℕ) (Fits : A → Type 0) → ((x : A) → Fits x → IsWord (word_of x)) → (xs : List A) → All Fits xs → All IsWord (map word_of xs)
+each_is_word word_of Fits is [] all = All-nil IsWord
+each_is_word word_of Fits is (x ∷ xs) all =
+    All-cons IsWord (word_of x) (map word_of xs) (is x (All-head Fits x xs all)) (each_is_word word_of Fits is xs (All-tail Fits x xs all))
+
+pub numbers_are_words : (numbers : List ℕ) → All IsNumber numbers → All IsWord (map decimal numbers)
+numbers_are_words numbers all = each_is_word decimal IsNumber decimal_is_word numbers all

@@ -1,7 +1,7 @@
 use Rattle.std.proofs.Common.{Some, None, lit<}
 use Rattle.std.proofs.lemmas.Str.Pattern.{split_parts}
-use Rattle.rl_events.proofs.Fives.{words_more, words_one, after_shorter}
-use Rattle.rl_events.proofs.text.first_piece.Goals as goal
+use Rattle.rl_text.proofs.FirstWords.{words_more, words_one, after_shorter}
+use Rattle.rl_text.proofs.text.first_piece.Goals as goal
 
 pub returns-in-Some-clause-words : goal.returns-in-Some-clause-words
 returns-in-Some-clause-words c =

@@ -3,7 +3,7 @@ use Rattle.std.proofs.Common.{◌≡◌, ℕ, true, List, [], ◌∷◌, arith, 
 use Rattle.std.specs.Str.{IsUtf8, IsAscii}
 use Rattle.std.proofs.lemmas.Str.{IsUtf8-from_ascii}
 use Rattle.std.proofs.lemmas.Bool.Decides.{nat_tests}
-use Rattle.rl_events.specs.Text.{is_printable}
+use Rattle.rl_text.specs.Text.{is_printable}
 
 small : (line : List ℕ) → is_printable line ≡ true → IsAscii line
 small [] h i = omega arith

@@ -1,5 +1,5 @@
--- The first five words of a line.
-use Rattle.std.proofs.Common.{◌≡◌, ◌≢◌, ℕ, ◌+◌, ◌<◌, ◌≤◌, ◌==◌, not, true, false, cond, List, [], ◌∷◌, ◌++◌, All, filter, length, take, map, get_or, if◌then◌else◌, inl, inr, None, Some, Result, Err, set, append-nil, length-append, add-one, refl, ap, sym, ◌∙◌, arith}
+-- The first words of a line.
+use Rattle.std.proofs.Common.{◌≡◌, ◌≢◌, ℕ, ◌+◌, ◌<◌, ◌≤◌, ◌==◌, not, true, false, cond, List, [], ◌∷◌, ◌++◌, All, filter, length, take, map, get_or, if◌then◌else◌, inl, inr, set, append-nil, length-append, add-one, refl, ap, sym, ◌∙◌, arith}
 use Rattle.std.specs.List.{slice_split}
 use Rattle.std.proofs.lemmas.Bool.{cases_lt}
 use Rattle.std.proofs.lemmas.Grind.{get_or_default_zero}
@@ -7,13 +7,7 @@ use Rattle.std.proofs.lemmas.List.{take_all, take_at, map-append, append_assoc}
 use Rattle.std.proofs.Math.Seq.{take-suc-set}
 use Rattle.std.proofs.lemmas.List.Splits.{slice_split_at, slice_split_none}
 use Rattle.std.proofs.lemmas.Bool.Decides.{nat_tests}
-use Rattle.rl_events.specs.Text.{words_of, is_printable}
-use Rattle.rl_events.specs.Events.{event_of, event_in, event_word, read_event}
-use Rattle.rl_events.specs.Words.{◌>>=◌, or_fault}
-use Rattle.rl_events.specs.declared.kind.Kind.{Kind}
-use Rattle.rl_events.specs.declared.kind.Kind.TheVariants.{Byte, Word}
-use Rattle.rl_events.specs.declared.event.Event.{Event}
-use Rattle.rl_events.specs.declared.line.EventWord.TheVariants as word
+use Rattle.rl_text.specs.Text.{words_of}
 
 other : (b : ℕ) → b ≢ 32 → (b == 32) ≡ false
 other b h = grind (arith, nat_tests)
@@ -59,35 +53,3 @@ pub go_on : (before now : List (List ℕ)) (word rest after line : List ℕ) →
 go_on before now word rest after line is same cut some =
     let here : words_of rest ≡ word ∷ words_of after = cut ∙ ap (λ b. cond b (words_of after) (word ∷ words_of after)) some in
     ap (λ ws. ws ++ words_of after) is ∙ append_assoc before (word ∷ []) (words_of after) ∙ ap (λ ws. before ++ ws) (sym here) ∙ same
-
--- a line of five words or more is judged as the first five are
-pub judged_by_five : (nodes workers : ℕ) (words : List (List ℕ)) → event_of nodes workers (take 5 words) ≡ event_of nodes workers words
-judged_by_five nodes workers [] = refl
-judged_by_five nodes workers (first ∷ []) = refl
-judged_by_five nodes workers (first ∷ a ∷ []) = refl
-judged_by_five nodes workers (first ∷ a ∷ b ∷ []) = refl
-judged_by_five nodes workers (first ∷ a ∷ b ∷ c ∷ []) = refl
-judged_by_five nodes workers (first ∷ a ∷ b ∷ c ∷ d ∷ more) = elim (event_word first) as (λ w. (or_fault Word w >>= λ w. read_event nodes workers w (a ∷ b ∷ c ∷ d ∷ [])) ≡ (or_fault Word w >>= λ w. read_event nodes workers w (a ∷ b ∷ c ∷ d ∷ more))) [
-  | None ↦ refl
-  | Some word.Step ↦ refl
-  | Some word.Flush ↦ refl
-  | Some word.Idle ↦ refl
-  | Some word.Dlv ↦ refl
-  | Some word.Discard ↦ refl
-  | Some word.All ↦ refl
-  | Some word.Elect ↦ refl
-  | Some word.Tick ↦ refl
-  | Some word.Crash ↦ refl
-  | Some word.Back ↦ refl
-  | Some word.Lose ↦ refl
-  | Some word.Play ↦ refl
-  | Some word.PlayAll ↦ refl
-  | Some word.Show ↦ refl
-  | Some word.Random ↦ refl
-]
-
--- what a printable line is, by its first five words
-pub parsed : (nodes workers : ℕ) (line text : List ℕ) (words : List (List ℕ)) (r : Result Event Kind) → is_printable line ≡ true → text ≡ line → words ≡ take 5 (words_of text) → r ≡ event_of nodes workers words → event_in nodes workers line ≡ r
-parsed nodes workers line text words r ok same fives is =
-    ap (λ b. cond b (event_of nodes workers (words_of line)) (Err Byte)) ok ∙ sym (judged_by_five nodes workers (words_of line))
-    ∙ ap (event_of nodes workers) (ap (λ t. take 5 (words_of t)) (sym same) ∙ sym fives) ∙ sym is

@@ -3,7 +3,7 @@ use Rattle.std.proofs.Common.{◌≡◌, ℕ, ◌+◌, ◌-◌, ◌*◌, ◌<◌
 use Rattle.std.specs.List.{list_all}
 use Rattle.std.proofs.lemmas.List.{at_drop_more, at_drop_all}
 use Rattle.std.proofs.lemmas.Bool.Decides.{nat_tests}
-use Rattle.rl_events.specs.Text.{value_onto, is_digit}
+use Rattle.rl_text.specs.Numbers.{value_onto, is_digit}
 
 -- more digits make no smaller number
 pub value_grows : (n : ℕ) (digits : List ℕ) → n ≤ value_onto n digits
@@ -21,4 +21,4 @@ digit_at (d ∷ digits) (suc i) all h = digit_at digits i (grind (arith, nat_tes
 pub value_end : (digits : List ℕ) (n i : ℕ) → length digits ≤ i → value_onto n (drop i digits) ≡ n
 value_end digits n i h = at_drop_all (value_onto n) digits i h
 
-pub ruleset numbers = (value_grows, value_more, digit_at, value_end)
+pub ruleset digits = (value_grows, value_more, digit_at, value_end)

@@ -1,6 +1,6 @@
 use Rattle.std.proofs.Common.{◌≡◌, ◌<◌, ◌^◌, drop}
-use Rattle.rl_events.specs.Text.{value_onto}
-use Rattle.rl_events.proofs.word.value.Given as goal
+use Rattle.rl_text.specs.Numbers.{value_onto}
+use Rattle.rl_text.proofs.number.value.Given as goal
 
 abbrev pub invariant-loop-digit : goal.invariant-loop-digit
 invariant-loop-digit l =

@@ -1,0 +1,5 @@
+//! Lines, words and numbers of a text.
+#![tactic(auto)]
+
+pub mod number;
+pub mod text;
