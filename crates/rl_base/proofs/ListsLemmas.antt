@@ -8,13 +8,13 @@ set_last [] i list x within = absurd (omega arith)
 set_last (l ∷ lists) zero list x within = refl
 set_last (l ∷ lists) (suc i) list x within = ap (λ ls. l ∷ ls) (set_last lists i list x (omega arith))
 
--- the elements of a list stay where they are when one joins them at its end
+-- the elements of a list stay where they are when others join them at its end
 pub get_before : {X : Type 0} (xs : List X) (x : X) (i : ℕ) → i < length xs
     → slice_get (xs ++ x ∷ []) i ≡ slice_get xs i
 get_before [] x i within = absurd (omega arith)
 get_before (y ∷ xs) x zero within = refl
 get_before (y ∷ xs) x (suc i) within = get_before xs x i (omega arith)
 
-pub get_last : {X : Type 0} (xs : List X) (x : X) → slice_get (xs ++ x ∷ []) (length xs) ≡ Some x
-get_last [] x = refl
-get_last (y ∷ xs) x = get_last xs x
+pub get_last : {X : Type 0} (xs : List X) (x : X) (more : List X) → slice_get (xs ++ x ∷ more) (length xs) ≡ Some x
+get_last [] x more = refl
+get_last (y ∷ xs) x more = get_last xs x more

@@ -2,9 +2,12 @@
 use Rattle.std.proofs.Common.{◌≡◌, ℕ, ◌-◌, ◌^◌, ◌<◌, ◌≤◌, List, [], ◌∷◌, All, Ok, Err, codes, refl, ap, sym, ◌∙◌, arith, if◌then◌else◌}
 use Rattle.std.specs.Prelude.{ok_or}
 use Rattle.std.specs.Fmt.{decimal}
+use Rattle.std.proofs.lemmas.List.Elements.{All-nil, All-cons}
 use Rattle.rl_base.specs.Results.{◌>>=◌}
 use Rattle.rl_base.specs.declared.limit.TheConstants.{EVENTS}
-use Rattle.std.proofs.lemmas.List.Elements.{All-nil, All-cons}
+use Rattle.rl_text.specs.Printed.{line_of}
+use Rattle.rl_text.specs.Text.{words_of}
+use Rattle.rl_text.proofs.WordsBack.{IsWord, number_of_decimal, number_within_decimal, one_number, printable_line, three_numbers, two_numbers, words_of_line}
 use Rattle.rl_events.specs.declared.event.Event.{Event}
 use Rattle.rl_events.specs.declared.event.Event.TheVariants as event
 use Rattle.rl_events.specs.declared.kind.Kind.TheVariants.{Byte, Number, Range}
@@ -12,9 +15,6 @@ use Rattle.rl_events.specs.Events.{event_in, event_of, node_and_worker, random_e
 use Rattle.rl_events.specs.Fits.{EventFits, IsOneOf}
 use Rattle.rl_events.specs.Printed.{event_line, event_words}
 use Rattle.rl_events.specs.Words.{number, within}
-use Rattle.rl_text.specs.Printed.{line_of}
-use Rattle.rl_text.specs.Text.{words_of}
-use Rattle.rl_text.proofs.WordsBack.{IsWord, number_of_decimal, number_within_decimal, one_number, printable_line, three_numbers, two_numbers, words_of_line}
 
 -- a printed line is judged by its words
 pub judged_by_words : (nodes workers : ℕ) (words : List (List ℕ)) → All IsWord words → event_in nodes workers (line_of words) ≡ event_of nodes workers words

@@ -1,8 +1,8 @@
 -- What words must be: numbers, and numbers in a range.
 use Rattle.std.specs.Prelude.{ℕ, List, ok_or, Result}
+use Rattle.rl_text.specs.Numbers.{number_of, number_within}
 use Rattle.rl_events.specs.declared.kind.Kind.{Kind}
 use Rattle.rl_events.specs.declared.kind.Kind.TheVariants.{Number, Range}
-use Rattle.rl_text.specs.Numbers.{number_of, number_within}
 
 -- a word that must be a number
 abbrev pub number : List ℕ → Result ℕ Kind

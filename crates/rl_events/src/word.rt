@@ -20,7 +20,7 @@ pub fn within(low: u32, high: u32, word: &str) -> Result<u32, Kind>
     ensures high { IfOk result (λ n. n ≤ high) }
 {
     let (low, high) = (u64::from(low), u64::from(high));
-    let n = number_within(low, high, Kind::Number, Kind::Range, word)?;
+    let n = number_within(low, high, Kind::Number, Kind::Range, word.as_bytes())?;
     Ok(n as u32)
 }
 
@@ -29,5 +29,5 @@ pub fn positive(word: &str) -> Result<u64, Kind>
     ensures positive { result ≡ within 1 (u64.MAX) word.now }
     ensures low { IfOk result (λ n. 1 ≤ n) }
 {
-    number_within(1, u64::MAX, Kind::Number, Kind::Range, word)
+    number_within(1, u64::MAX, Kind::Number, Kind::Range, word.as_bytes())
 }

@@ -2,9 +2,10 @@
 use Rattle.std.proofs.Common.{◌≡◌, ℕ, ◌+◌, ◌<◌, ◌≤◌, List, [], ◌∷◌, ◌++◌, length, map, drop, get_or, Result, Ok, Err, refl, ap, sym, ◌∙◌, append-nil}
 use Rattle.std.proofs.lemmas.List.{at_drop_more, at_drop_all, append_assoc}
 use denote.Bor.{Bor}
-use Rattle.rl_events.specs.Words.{◌>>=◌}
+use Rattle.rl_base.specs.Results.{◌>>=◌}
 use Rattle.rl_events.specs.declared.kind.Kind.{Kind}
-use Rattle.rl_script.specs.Answers.{as_problem, Fails}
+use Rattle.rl_script.specs.Answers.{Fails}
+use Rattle.rl_script.specs.Problems.{as_problem}
 use Rattle.rl_script.specs.Operations.{each_word}
 use Rattle.rl_script.specs.declared.fault.LineError.{LineError}
 use Rattle.rl_script.specs.declared.fault.LineError.TheVariants as errors

@@ -8,8 +8,9 @@ use Rattle.std.proofs.lemmas.List.Sums.{sum_by-cons}
 use Rattle.rl_base.specs.declared.limit.LimitName.TheVariants as limits
 use Rattle.rl_events.specs.Events.{event_of, read_event}
 use Rattle.rl_events.specs.Fits.{EventFits, count_of, elections_of}
+use Rattle.rl_base.specs.Results.{◌>>=◌}
+use Rattle.rl_text.specs.Printed.{Line}
 use Rattle.rl_events.specs.Printed.{event_words}
-use Rattle.rl_events.specs.Words.{◌>>=◌}
 use Rattle.rl_events.specs.declared.event.Event.{Event}
 use Rattle.rl_events.specs.declared.event.Event.TheVariants as event
 use Rattle.rl_events.specs.declared.line.EventWord.{EventWord}
@@ -18,10 +19,9 @@ use Rattle.rl_events.proofs.ReadBack.{small_by_fit, words_back}
 use Rattle.rl_script.specs.declared.draft.Draft.{Draft}
 use Rattle.rl_script.specs.declared.fault.Problem.TheVariants.{Limit}
 use Rattle.rl_script.specs.declared.line.LineKind.TheVariants as line
-use Rattle.rl_script.specs.Answers.{as_problem}
+use Rattle.rl_script.specs.Problems.{as_problem}
 use Rattle.rl_script.specs.Sections.{is_events}
 use Rattle.rl_script.specs.Lines.{line_kind}
-use Rattle.rl_script.specs.Printed.{Line}
 use Rattle.rl_script.specs.Read.{event_joined, read_words, scheduled}
 use Rattle.rl_script.specs.Settings.{nodes_of, workers_of}
 use Rattle.rl_script.proofs.FitsLemmas.{one_more_event}

@@ -9,6 +9,7 @@ use Rattle.std.proofs.lemmas.List.Elements.{All-head, All-tail, All-cons, All-pu
 use Rattle.std.proofs.lemmas.Option.{get_or_from_slice_get, slice_get_within}
 use Rattle.std.proofs.lemmas.List.Sums.{sum_by-cons, sum_by-append}
 use Rattle.rl_base.specs.Lists.{with_last}
+use Rattle.rl_base.proofs.ListsLemmas.{get_before}
 use Rattle.rl_value.specs.Declare.{refusal}
 use Rattle.rl_value.specs.declared.schema.DeclareError.{DeclareError}
 use Rattle.rl_value.specs.Fits.{RowsFit}
@@ -18,16 +19,17 @@ use Rattle.rl_value.proofs.PlacesLemmas.{places_total}
 use Rattle.rl_value.proofs.SchemaLemmas.{fits, schema_push}
 use Rattle.rl_txn.specs.Fits.{TxnFits}
 use Rattle.rl_txn.specs.declared.op.Op.{Op}
-use Rattle.rl_events.specs.Fits.{EventFits, IsWithin}
+use Rattle.rl_events.specs.Fits.{EventFits}
+use Rattle.rl_text.specs.Numbers.{IsWithin, IsNumber}
 use Rattle.rl_events.specs.declared.event.Event.{Event}
 use Rattle.rl_script.specs.declared.draft.Draft.{Draft}
 use Rattle.rl_script.specs.declared.draft.OpenTxn.{OpenTxn}
 use Rattle.rl_script.specs.declared.draft.Section.{Section}
 use Rattle.rl_script.specs.declared.draft.Section.TheVariants as section
 use Rattle.rl_script.specs.Drafts.{DraftFits}
-use Rattle.rl_script.specs.Fits.{IsNumber, ColumnsFit}
+use Rattle.rl_script.specs.Fits.{ColumnsFit}
 use Rattle.rl_script.specs.Sections.{is_before_requests, is_events}
-use Rattle.rl_script.specs.Read.{opening}
+use Rattle.rl_script.specs.Read.{opening_draft}
 
 -- one more event counts as many as it is
 pub one_more_event : (f : Event → ℕ) (events : List Event) (event : Event) → sum_by f (events ++ event ∷ []) ≡ sum_by f events + f event
@@ -68,16 +70,10 @@ if_none P current is = subst (λ (o : Option OpenTxn). IfSome o P) (sym is) tt
 no_element : {X : Type 0} (P : X → Type 0) → All P []
 no_element P = λ k d within. absurd (omega arith)
 
--- the tables before one more are the same
-still : (tables : List Table) (x : Table) (t : ℕ) → t < length tables → slice_get (tables ++ x ∷ []) t ≡ slice_get tables t
-still [] x t within = absurd (omega arith)
-still (y ∷ tables) x zero within = refl
-still (y ∷ tables) x (suc t) within = still tables x t (omega arith)
-
 rows_with_table : (tables : List Table) (x : Table) (rows : Rows) → RowsFit tables rows → RowsFit (tables ++ x ∷ []) rows
 rows_with_table tables x rows f t k row at =
     let old = f t k row at in
-    let same : slice_get (tables ++ x ∷ []) t ≡ slice_get tables t = still tables x t old.0 in (
+    let same : slice_get (tables ++ x ∷ []) t ≡ slice_get tables t = get_before tables x t old.0 in (
       omega (arith, length-append tables (x ∷ []), old.0),
       subst (λ n. k < n) (sym (ap (λ o. option_map_or (λ table. table.size) o 0) same)) old.1,
       old.2 ∙ sym (ap (λ o. option_map_or (λ table. table.columns) o 0) same),
@@ -174,7 +170,7 @@ fits_ended draft current lists is more f =
     }
 
 -- before all lines
-pub fits_opening : (draft : Draft) → draft ≡ opening → DraftFits draft
+pub fits_opening : (draft : Draft) → draft ≡ opening_draft → DraftFits draft
 fits_opening draft is = subst DraftFits (sym is) (record {
   tables = record { names = λ t within. absurd (omega arith); few = omega arith; records = omega arith; each = no_element IsTable };
   settings = record { nodes = (omega arith, omega arith); workers = (omega arith, omega arith); batch = (omega arith, omega arith); loss = omega arith; seed = omega arith; stops = no_element (IsWithin 1 1000000); few_stops = omega arith };

@@ -1,18 +1,17 @@
 -- Lines of words, read one after another.
 use Rattle.std.proofs.Common.{◌≡◌, ℕ, ◌+◌, ◌==◌, List, [], ◌∷◌, ◌++◌, All, map, true, false, None, Some, Option, Result, Ok, Err, refl, ap, ◌∙◌, if◌then◌else◌}
 use Rattle.std.proofs.lemmas.List.Elements.{All-head, All-tail}
-use Rattle.rl_events.specs.Printed.{line_of}
+use Rattle.rl_base.specs.Results.{◌>>=◌}
+use Rattle.rl_text.proofs.WordsBack.{IsWord, words_of_line, printable_line}
+use Rattle.rl_text.specs.Printed.{line_of, Line}
+use Rattle.rl_text.specs.Text.{words_of}
 use Rattle.std.specs.Prelude.{slice_index}
-use Rattle.rl_events.specs.Text.{words_of}
-use Rattle.rl_events.specs.Words.{◌>>=◌}
 use Rattle.rl_events.specs.declared.kind.Kind.TheVariants.{Byte, Word, Order}
-use Rattle.rl_events.proofs.PrintedLemmas.{IsWord, words_of_line, printable_line}
 use Rattle.rl_script.specs.declared.draft.Draft.{Draft}
 use Rattle.rl_script.specs.declared.fault.Problem.{Problem}
 use Rattle.rl_script.specs.declared.fault.Problem.TheVariants.{Fault}
 use Rattle.rl_script.specs.declared.line.LineKind.{LineKind}
 use Rattle.rl_script.specs.Lines.{line_kind}
-use Rattle.rl_script.specs.Printed.{Line}
 use Rattle.rl_script.specs.Read.{in_order, read_kind, read_words, read_line, read_lines}
 
 -- what some lines say, after those before

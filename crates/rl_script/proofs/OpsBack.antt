@@ -1,5 +1,6 @@
 -- The line of an op is read as the op again.
-use Rattle.std.proofs.Common.{◌≡◌, ℕ, ◌-◌, ◌<◌, ◌≤◌, ◌==◌, List, [], ◌∷◌, All, length, map, slice_index, true, false, Option, Some, None, is_some, Result, Ok, codes, zero, suc, refl, ap, ◌∙◌, arith}
+use Rattle.std.proofs.Common.{◌≡◌, ℕ, ◌-◌, ◌<◌, ◌≤◌, ◌==◌, List, [], ◌∷◌, All, length, map, slice_index, true, false, Option, Some, None, is_some, Result, Ok, Err, codes, zero, suc, refl, ap, ◌∙◌, arith}
+use Rattle.std.specs.Prelude.{ok_or, option_map}
 use Rattle.std.specs.List.{list_all}
 use Rattle.std.specs.Fmt.{decimal}
 use Rattle.std.proofs.lemmas.Bool.Decides.{nat_tests}
@@ -14,17 +15,18 @@ use Rattle.rl_txn.specs.declared.op.Operand.{Operand}
 use Rattle.rl_txn.specs.declared.op.Operand.TheVariants.{Reg, Num}
 use Rattle.rl_txn.specs.declared.op.Rel.{Rel}
 use Rattle.rl_txn.specs.declared.op.Rel.TheVariants.{Eq, Ne, Lt, Le, Gt, Ge}
-use Rattle.rl_events.specs.Text.{number_of}
-use Rattle.rl_events.specs.Words.{◌>>=◌, number, or_fault, within}
+use Rattle.rl_base.specs.Results.{◌>>=◌}
+use Rattle.rl_events.proofs.ReadBack.{number_back, within_back}
+use Rattle.rl_text.proofs.WordsBack.{IsWord, is_seen, decimal_is_word, each_is_word, number_of_decimal, number_within_decimal}
+use Rattle.rl_text.specs.Numbers.{number_of, IsNumber}
+use Rattle.rl_events.specs.Words.{number, within}
 use Rattle.rl_events.specs.declared.kind.Kind.{Kind}
 use Rattle.rl_events.specs.declared.kind.Kind.TheVariants.{Register, UnknownTable}
-use Rattle.rl_events.proofs.PrintedLemmas.{IsWord, is_seen, decimal_is_word, number_of_decimal, number_decimal, within_decimal}
-use Rattle.rl_script.specs.Fits.{IsNumber}
 use Rattle.rl_script.specs.Lines.{line_kind}
-use Rattle.rl_script.specs.Operations.{each_word, known, table_for, read_op, set_of, terms_of, add_of, sub_of, mul_of, get_of, has_of, put_of, del_of, scan_of, need_of, skip_of, out_of}
+use Rattle.rl_script.specs.Operations.{each_word, known_table, table_for, read_op, set_of, terms_of, get_of, has_of, put_of, del_of, scan_of, need_of, skip_of}
 use Rattle.rl_script.specs.Printed.{register_word, operand_word, relation_word, op_words}
 use Rattle.rl_script.specs.Read.{op_joined, read_words, with_op}
-use Rattle.rl_script.specs.Words.{number_operand, operand, register, register_of, relation}
+use Rattle.rl_script.specs.Words.{operand, register, relation}
 use Rattle.rl_script.specs.declared.draft.Draft.{Draft}
 use Rattle.rl_script.specs.declared.line.LineKind.TheVariants as line
 use Rattle.rl_script.specs.declared.line.OpWord.{OpWord}
@@ -32,27 +34,22 @@ use Rattle.rl_script.specs.declared.line.OpWord.TheVariants as word
 
 -- registers and operands
 
-register_by : (r : ℕ) (digits : List ℕ) → r < 16 → number_of digits ≡ Some r → register_of (114 ∷ digits) ≡ Some r
-unfolding register_of
-register_by r digits small is = grind (arith, nat_tests)
-
-pub register_back : (r : ℕ) → r < 16 → register_of (register_word r) ≡ Some r
-register_back r small = register_by r (decimal r) small (number_of_decimal r (omega arith))
-
 pub register_read : (r : ℕ) → r < 16 → register (register_word r) ≡ Ok r
-register_read r small = ap (or_fault Register) (register_back r small)
+unfolding register
+register_read r small = number_within_decimal 0 15 Register Register r (omega arith) (omega arith) (omega arith)
 
 -- a number begins with a digit, and a register does not
-no_register : (word : List ℕ) (n : ℕ) → number_of word ≡ Some n → register_of word ≡ None
-unfolding register_of
+no_register : (word : List ℕ) (n : ℕ) → number_of word ≡ Some n → register word ≡ Err Register
+unfolding register
 no_register [] n is = refl
-no_register (b ∷ word) n is = grind (arith, nat_tests)
+no_register (b ∷ word) n is = let other : (b == 114) ≡ false = grind (arith, nat_tests) in rw other refl
 
 pub operand_back : (a : Operand) → OperandFits a → operand (operand_word a) ≡ Ok a
-operand_back (Reg r) small = ap (λ (o : Option ℕ). elim o [ Some r ↦ Ok (Reg r) | None ↦ number_operand (number_of (register_word r)) ]) (register_back r small)
+operand_back (Reg r) small =
+    ap (λ (o : Result ℕ Kind). elim o [ Ok r ↦ Ok (Reg r) | Err kind ↦ ok_or (option_map Num (number_of (register_word r))) Register ]) (register_read r small)
 operand_back (Num n) small =
-    ap (λ (o : Option ℕ). elim o [ Some r ↦ Ok (Reg r) | None ↦ number_operand (number_of (decimal n)) ]) (no_register (decimal n) n (number_of_decimal n small))
-    ∙ ap number_operand (number_of_decimal n small)
+    ap (λ (o : Result ℕ Kind). elim o [ Ok r ↦ Ok (Reg r) | Err kind ↦ ok_or (option_map Num (number_of (decimal n))) Register ]) (no_register (decimal n) n (number_of_decimal n small))
+    ∙ ap (λ o. ok_or (option_map Num o) Register) (number_of_decimal n small)
 
 pub relation_back : (rel : Rel) → relation (relation_word rel) ≡ Ok rel
 relation_back Eq = refl
@@ -83,7 +80,7 @@ pub each_operand_back : (values : List Operand) → All OperandFits values → e
 each_operand_back values all = each_back operand operand_word OperandFits operand_back values all
 
 pub each_number_back : (row : List ℕ) → All IsNumber row → each_word number (map decimal row) ≡ Ok row
-each_number_back row all = each_back number decimal IsNumber number_decimal row all
+each_number_back row all = each_back number decimal IsNumber number_back row all
 
 -- names of tables
 
@@ -113,8 +110,8 @@ few_columns_at (x ∷ tables) (suc t) all there = few_columns_at tables t (All-t
 pub table_name_is_word : (tables : List Table) (t : ℕ) → IsSchema tables → t < length tables → IsWord (name_of tables t)
 table_name_is_word tables t schema there = name_is_word (name_of tables t) (named_at tables t schema.each there)
 
-pub known_back : (tables : List Table) (t : ℕ) → IsSchema tables → t < length tables → known tables (name_of tables t) ≡ Ok t
-known_back tables t schema there = ap (or_fault UnknownTable) (name_found tables t schema there)
+pub known_back : (tables : List Table) (t : ℕ) → IsSchema tables → t < length tables → known_table tables (name_of tables t) ≡ Ok t
+known_back tables t schema there = ap (λ o. ok_or o UnknownTable) (name_found tables t schema there)
 
 -- the table of a line that gives as many columns as it has
 pub table_for_back : (tables : List Table) (t count : ℕ) → IsSchema tables → t < length tables → count ≡ columns_of tables t → table_for tables (name_of tables t) count ≡ Ok t
@@ -123,7 +120,7 @@ table_for_back tables t count schema there all = let found = name_found tables t
 pub column_back : (tables : List Table) (t c : ℕ) → IsSchema tables → t < length tables → c < columns_of tables t → within 0 (columns_of tables t - 1) (decimal c) ≡ Ok c
 column_back tables t c schema there within_table =
     let few = few_columns_at tables t schema.each there in
-    within_decimal 0 (columns_of tables t - 1) c (omega arith) (omega arith) (omega (arith, few))
+    within_back 0 (columns_of tables t - 1) c (omega arith) (omega arith) (omega (arith, few))
 
 -- the ops
 
@@ -138,15 +135,6 @@ terms_back d a b low first second =
     ap (λ r. r >>= λ d. operand (operand_word a) >>= λ a. operand (operand_word b) >>= λ b. Ok (d, a, b)) (register_read d low)
     ∙ ap (λ r. r >>= λ a. operand (operand_word b) >>= λ b. Ok (d, a, b)) (operand_back a first)
     ∙ ap (λ r. r >>= λ b. Ok (d, a, b)) (operand_back b second)
-
-add_back : (d : ℕ) (a b : Operand) → d < 16 → OperandFits a → OperandFits b → add_of (register_word d) (operand_word a) (operand_word b) ≡ Ok (op.Add d a b)
-add_back d a b low first second = ap (λ r. r >>= λ t. Ok (op.Add t.0 t.1 t.2)) (terms_back d a b low first second)
-
-sub_back : (d : ℕ) (a b : Operand) → d < 16 → OperandFits a → OperandFits b → sub_of (register_word d) (operand_word a) (operand_word b) ≡ Ok (op.Sub d a b)
-sub_back d a b low first second = ap (λ r. r >>= λ t. Ok (op.Sub t.0 t.1 t.2)) (terms_back d a b low first second)
-
-mul_back : (d : ℕ) (a b : Operand) → d < 16 → OperandFits a → OperandFits b → mul_of (register_word d) (operand_word a) (operand_word b) ≡ Ok (op.Mul d a b)
-mul_back d a b low first second = ap (λ r. r >>= λ t. Ok (op.Mul t.0 t.1 t.2)) (terms_back d a b low first second)
 
 get_back : (tables : List Table) (t : ℕ) (k : Operand) (c d : ℕ) → IsSchema tables → OpFits tables (op.Get t k c d) → get_of tables (name_of tables t) (operand_word k) (decimal c) (register_word d) ≡ Ok (op.Get t k c d)
 unfolding get_of
@@ -182,7 +170,7 @@ unfolding scan_of
 scan_back tables t k n c d schema fits =
     ap (λ r. r >>= λ t. operand (operand_word k) >>= λ k. within 1 256 (decimal n) >>= λ n. within 0 (columns_of tables t - 1) (decimal c) >>= λ c. register (register_word d) >>= λ d. Ok (op.Scan t k n c d)) (known_back tables t schema fits.0)
     ∙ ap (λ r. r >>= λ k. within 1 256 (decimal n) >>= λ n. within 0 (columns_of tables t - 1) (decimal c) >>= λ c. register (register_word d) >>= λ d. Ok (op.Scan t k n c d)) (operand_back k fits.1)
-    ∙ ap (λ r. r >>= λ n. within 0 (columns_of tables t - 1) (decimal c) >>= λ c. register (register_word d) >>= λ d. Ok (op.Scan t k n c d)) (within_decimal 1 256 n fits.2 fits.3 (omega (arith, fits.3)))
+    ∙ ap (λ r. r >>= λ n. within 0 (columns_of tables t - 1) (decimal c) >>= λ c. register (register_word d) >>= λ d. Ok (op.Scan t k n c d)) (within_back 1 256 n fits.2 fits.3 (omega (arith, fits.3)))
     ∙ ap (λ r. r >>= λ c. register (register_word d) >>= λ d. Ok (op.Scan t k n c d)) (column_back tables t c schema fits.0 fits.4)
     ∙ ap (λ r. r >>= λ d. Ok (op.Scan t k n c d)) (register_read d fits.5)
 
@@ -199,11 +187,7 @@ skip_back a rel b n fits next some few =
     ap (λ r. r >>= λ a. relation (relation_word rel) >>= λ rel. operand (operand_word b) >>= λ b. within 1 64 (decimal n) >>= λ n. Ok (op.Skip a rel b n)) (operand_back a fits)
     ∙ ap (λ r. r >>= λ rel. operand (operand_word b) >>= λ b. within 1 64 (decimal n) >>= λ n. Ok (op.Skip a rel b n)) (relation_back rel)
     ∙ ap (λ r. r >>= λ b. within 1 64 (decimal n) >>= λ n. Ok (op.Skip a rel b n)) (operand_back b next)
-    ∙ ap (λ r. r >>= λ n. Ok (op.Skip a rel b n)) (within_decimal 1 64 n some few (omega arith))
-
-out_back : (a : Operand) → OperandFits a → out_of (operand_word a) ≡ Ok (op.Out a)
-unfolding out_of
-out_back a fits = ap (λ r. r >>= λ a. Ok (op.Out a)) (operand_back a fits)
+    ∙ ap (λ r. r >>= λ n. Ok (op.Skip a rel b n)) (within_back 1 64 n some few (omega arith))
 
 -- a line that begins with an op's word, inside a transaction
 op_joins : (draft : Draft) (first : List ℕ) (w : OpWord) (words : List (List ℕ)) (op : Op) → (slice_index first 0 == 35) ≡ false → line_kind draft.section first ≡ Some (line.Op w) → is_some draft.current ≡ true → read_op draft.schema w words ≡ Ok op → read_words draft (first ∷ words) ≡ with_op draft op
@@ -212,9 +196,9 @@ op_joins draft first w words op no_comment kind opened is = rw (no_comment, kind
 
 pub op_line_back : (draft : Draft) (op : Op) → IsSchema draft.schema → OpFits draft.schema op → is_some draft.current ≡ true → read_words draft (op_words draft.schema op) ≡ with_op draft op
 op_line_back draft (op.Set d a) schema fits opened = op_joins draft (codes "set") word.Set _ _ refl refl opened (set_back d a fits.0 fits.1)
-op_line_back draft (op.Add d a b) schema fits opened = op_joins draft (codes "add") word.Add _ _ refl refl opened (add_back d a b fits.0 fits.1 fits.2)
-op_line_back draft (op.Sub d a b) schema fits opened = op_joins draft (codes "sub") word.Sub _ _ refl refl opened (sub_back d a b fits.0 fits.1 fits.2)
-op_line_back draft (op.Mul d a b) schema fits opened = op_joins draft (codes "mul") word.Mul _ _ refl refl opened (mul_back d a b fits.0 fits.1 fits.2)
+op_line_back draft (op.Add d a b) schema fits opened = op_joins draft (codes "add") word.Add _ _ refl refl opened (ap (λ r. r >>= λ t. Ok (op.Add t.0 t.1 t.2)) (terms_back d a b fits.0 fits.1 fits.2))
+op_line_back draft (op.Sub d a b) schema fits opened = op_joins draft (codes "sub") word.Sub _ _ refl refl opened (ap (λ r. r >>= λ t. Ok (op.Sub t.0 t.1 t.2)) (terms_back d a b fits.0 fits.1 fits.2))
+op_line_back draft (op.Mul d a b) schema fits opened = op_joins draft (codes "mul") word.Mul _ _ refl refl opened (ap (λ r. r >>= λ t. Ok (op.Mul t.0 t.1 t.2)) (terms_back d a b fits.0 fits.1 fits.2))
 op_line_back draft (op.Get t k c d) schema fits opened = op_joins draft (codes "get") word.Get _ _ refl refl opened (get_back draft.schema t k c d schema fits)
 op_line_back draft (op.Has t k d) schema fits opened = op_joins draft (codes "has") word.Has _ _ refl refl opened (has_back draft.schema t k d schema fits)
 op_line_back draft (op.Put t k values) schema fits opened = op_joins draft (codes "put") word.Put _ _ refl refl opened (put_back draft.schema t k values schema fits)
@@ -222,7 +206,7 @@ op_line_back draft (op.Del t k) schema fits opened = op_joins draft (codes "del"
 op_line_back draft (op.Scan t k n c d) schema fits opened = op_joins draft (codes "scan") word.Scan _ _ refl refl opened (scan_back draft.schema t k n c d schema fits)
 op_line_back draft (op.Need a rel b) schema fits opened = op_joins draft (codes "need") word.Need _ _ refl refl opened (need_back a rel b fits.0 fits.1)
 op_line_back draft (op.Skip a rel b n) schema fits opened = op_joins draft (codes "skip") word.Skip _ _ refl refl opened (skip_back a rel b n fits.0 fits.1 fits.2 fits.3)
-op_line_back draft (op.Out a) schema fits opened = op_joins draft (codes "out") word.Out _ _ refl refl opened (out_back a fits)
+op_line_back draft (op.Out a) schema fits opened = op_joins draft (codes "out") word.Out _ _ refl refl opened (ap (λ r. r >>= λ a. Ok (op.Out a)) (operand_back a fits))
 
 -- the words of an op are words
 
@@ -241,17 +225,8 @@ relation_is_word Le = (omega arith, refl)
 relation_is_word Gt = (omega arith, refl)
 relation_is_word Ge = (omega arith, refl)
 
--- words that things are printed as
-pub each_is_word : {A : Type 0} → (word_of : A → List ℕ) (Fits : A → Type 0) → ((x : A) → Fits x → IsWord (word_of x)) → (xs : List A) → All Fits xs → All IsWord (map word_of xs)
-each_is_word word_of Fits is [] all = All-nil IsWord
-each_is_word word_of Fits is (x ∷ xs) all =
-    All-cons IsWord (word_of x) (map word_of xs) (is x (All-head Fits x xs all)) (each_is_word word_of Fits is xs (All-tail Fits x xs all))
-
 pub operands_are_words : (values : List Operand) → All OperandFits values → All IsWord (map operand_word values)
 operands_are_words values all = each_is_word operand_word OperandFits operand_is_word values all
-
-pub numbers_are_words : (row : List ℕ) → All IsNumber row → All IsWord (map decimal row)
-numbers_are_words row all = each_is_word decimal IsNumber decimal_is_word row all
 
 pub op_words_are_words : (tables : List Table) (op : Op) → IsSchema tables → OpFits tables op → All IsWord (op_words tables op)
 op_words_are_words tables (op.Set d a) schema fits =

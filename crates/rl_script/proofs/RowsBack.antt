@@ -11,32 +11,35 @@ use Rattle.rl_value.specs.Fits.{RowsFit}
 use Rattle.rl_value.specs.Rows.{Rows, place_cmp}
 use Rattle.rl_value.specs.Tables.{Table, IsSchema, name_of, size_of, columns_of}
 use Rattle.rl_value.proofs.PlacesLemmas.{places_total}
-use Rattle.rl_events.specs.Words.{◌>>=◌, number, within}
+use Rattle.rl_events.specs.Words.{number, within}
+use Rattle.rl_base.specs.Results.{◌>>=◌}
+use Rattle.rl_events.proofs.ReadBack.{within_back}
+use Rattle.rl_text.specs.Numbers.{IsNumber}
+use Rattle.rl_text.specs.Printed.{Line}
 use Rattle.rl_events.specs.declared.kind.Kind.TheVariants.{Duplicate}
-use Rattle.rl_events.proofs.PrintedLemmas.{within_decimal}
 use Rattle.rl_script.specs.declared.draft.Draft.{Draft}
 use Rattle.rl_script.specs.declared.draft.Section.TheVariants as section
 use Rattle.rl_script.specs.declared.fault.Problem.TheVariants.{Fault}
 use Rattle.rl_script.specs.declared.line.LineKind.TheVariants as line
-use Rattle.rl_script.specs.Answers.{as_problem}
-use Rattle.rl_script.specs.Fits.{ColumnsFit, IsNumber}
+use Rattle.rl_script.specs.Problems.{as_problem}
+use Rattle.rl_script.specs.Fits.{ColumnsFit}
 use Rattle.rl_script.specs.Sections.{is_before_requests}
 use Rattle.rl_script.specs.Operations.{each_word}
-use Rattle.rl_script.specs.Printed.{Line, row_lines, rows_of_table}
-use Rattle.rl_script.specs.Read.{row_of}
+use Rattle.rl_script.specs.Printed.{row_lines, rows_of_table}
+use Rattle.rl_script.specs.Read.{row_joined}
 use Rattle.rl_script.proofs.FitsLemmas.{at_place}
 use Rattle.rl_script.proofs.LinesBack.{reads, kind_line, more_lines, no_lines, one_line}
 use Rattle.rl_script.proofs.OpsBack.{each_number_back, table_for_back}
 
 -- a row that is not there yet
 row_back : (draft : Draft) (t k : ℕ) (row : List ℕ) → IsSchema draft.schema → t < length draft.schema → k < size_of draft.schema t → size_of draft.schema t ≤ 65536 → length row ≡ columns_of draft.schema t → All IsNumber row → finite.get draft.rows (t, k) ≡ None
-    → row_of draft (name_of draft.schema t) (decimal k) (map decimal row) ≡ Ok (record draft { section = section.Tables; rows = finite.insert draft.rows (t, k) row })
-unfolding row_of
+    → row_joined draft (name_of draft.schema t) (decimal k) (map decimal row) ≡ Ok (record draft { section = section.Tables; rows = finite.insert draft.rows (t, k) row })
+unfolding row_joined
 row_back draft t k row ok there within_size few all numbers new =
     ap (λ r. as_problem r >>= λ t. as_problem (within 0 (size_of draft.schema t - 1) (decimal k)) >>= λ key. as_problem (each_word number (map decimal row)) >>= λ cells. if is_some (finite.get draft.rows (t, key)) then Err (Fault Duplicate) else Ok (record draft { section = section.Tables; rows = finite.insert draft.rows (t, key) cells }))
     (table_for_back draft.schema t (length (map decimal row)) ok there (length-map row decimal ∙ all))
     ∙ ap (λ r. as_problem r >>= λ key. as_problem (each_word number (map decimal row)) >>= λ cells. if is_some (finite.get draft.rows (t, key)) then Err (Fault Duplicate) else Ok (record draft { section = section.Tables; rows = finite.insert draft.rows (t, key) cells }))
-    (within_decimal 0 (size_of draft.schema t - 1) k (omega arith) (omega arith) (omega arith))
+    (within_back 0 (size_of draft.schema t - 1) k (omega arith) (omega arith) (omega arith))
     ∙ ap (λ r. as_problem r >>= λ cells. if is_some (finite.get draft.rows (t, k)) then Err (Fault Duplicate) else Ok (record draft { section = section.Tables; rows = finite.insert draft.rows (t, k) cells })) (each_number_back row numbers)
     ∙ ap (λ o. if is_some o then Err (Fault Duplicate) else Ok (record draft { section = section.Tables; rows = finite.insert draft.rows (t, k) row })) new
 
@@ -126,8 +129,8 @@ key_back tables rows draft t k for_it few upto = go (finite.get rows (t, k)) ref
         let fit = for_it.fit t k row is in
         let words : Line = name_of tables t ∷ decimal k ∷ map decimal row in
         let early : is_before_requests draft.section ≡ true = ap is_before_requests for_it.there in
-        let read : row_of draft (name_of tables t) (decimal k) (map decimal row) ≡ Ok (record draft { section = section.Tables; rows = finite.insert draft.rows (t, k) row }) =
-        subst (λ (ts : List Table). row_of draft (name_of ts t) (decimal k) (map decimal row) ≡ Ok (record draft { section = section.Tables; rows = finite.insert draft.rows (t, k) row })) for_it.same
+        let read : row_joined draft (name_of tables t) (decimal k) (map decimal row) ≡ Ok (record draft { section = section.Tables; rows = finite.insert draft.rows (t, k) row }) =
+        subst (λ (ts : List Table). row_joined draft (name_of ts t) (decimal k) (map decimal row) ≡ Ok (record draft { section = section.Tables; rows = finite.insert draft.rows (t, k) row })) for_it.same
         (row_back draft t k row (subst IsSchema (sym for_it.same) for_it.schema) (rw for_it.same fit.0) (rw for_it.same fit.1) (rw for_it.same few) (rw for_it.same fit.2) (for_it.columns t k row is) (upto.behind t k (inr (refl, omega arith)))) in
         record {
           next = finite.insert draft.rows (t, k) row;

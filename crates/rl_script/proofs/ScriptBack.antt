@@ -13,10 +13,11 @@ use Rattle.rl_value.proofs.PlacesLemmas.{places_total}
 use Rattle.rl_txn.specs.declared.op.Op.{Op}
 use Rattle.rl_txn.proofs.RowSets.{same_place}
 use Rattle.rl_events.specs.Fits.{EventFits, count_of, elections_of}
-use Rattle.rl_events.specs.Printed.{event_words, line_of}
-use Rattle.rl_events.specs.Words.{◌>>=◌}
+use Rattle.rl_base.specs.Results.{◌>>=◌}
+use Rattle.rl_text.proofs.WordsBack.{IsWord, lines_of_text}
+use Rattle.rl_text.specs.Printed.{line_of, Line}
+use Rattle.rl_events.specs.Printed.{event_words}
 use Rattle.rl_events.specs.declared.event.Event.{Event}
-use Rattle.rl_events.proofs.PrintedLemmas.{IsWord, lines_of_text}
 use Rattle.rl_script.specs.declared.draft.Draft.{Draft}
 use Rattle.rl_script.specs.declared.draft.Section.{Section}
 use Rattle.rl_script.specs.declared.draft.Section.TheVariants as section
@@ -25,8 +26,8 @@ use Rattle.rl_script.specs.declared.script.Script.{Script}
 use Rattle.rl_script.specs.declared.settings.Settings.{Settings}
 use Rattle.rl_script.specs.Fits.{ScriptFits}
 use Rattle.rl_script.specs.Sections.{is_events}
-use Rattle.rl_script.specs.Printed.{Line, event_lines, header_line, list_lines, printed, rows_of_table, script_lines, setting_lines, table_line}
-use Rattle.rl_script.specs.Read.{after_header, header_fault, in_order, opening, read, read_text, script_of}
+use Rattle.rl_script.specs.Printed.{event_lines, header_line, list_lines, printed, rows_of_table, script_lines, setting_lines, table_line}
+use Rattle.rl_script.specs.Read.{after_header, header_fault, in_order, opening_draft, read, read_text, script_of}
 use Rattle.rl_script.specs.Settings.{nodes_of, workers_of}
 use Rattle.rl_script.proofs.EventsBack.{events_back}
 use Rattle.rl_script.proofs.FitsLemmas.{before_events, few_keys}
@@ -121,14 +122,14 @@ no_requests (suc n) = omega (arith, sum_by-cons (λ (l : List (List Op)). length
 -- all lines after the first
 
 whole_back : (script : Script) → ScriptFits script → IsSchema script.schema
-    → record { at : Section; is : reads opening (setting_lines script ++ map table_line script.schema ++ flat_map (rows_of_table script.schema script.rows) (range_with_len 0 (length script.schema)) ++ list_lines script.schema 1 script.lists ++ event_lines script.events) ≡ Ok (whole script at) }
+    → record { at : Section; is : reads opening_draft (setting_lines script ++ map table_line script.schema ++ flat_map (rows_of_table script.schema script.rows) (range_with_len 0 (length script.schema)) ++ list_lines script.schema 1 script.lists ++ event_lines script.events) ≡ Ok (whole script at) }
 whole_back script fits ok =
     let settings : List Line = setting_lines script in
     let tables : List Line = map table_line script.schema in
     let rows : List Line = flat_map (rows_of_table script.schema script.rows) (range_with_len 0 (length script.schema)) in
     let txns : List Line = list_lines script.schema 1 script.lists in
     let events : List Line = event_lines script.events in
-    let set : Draft = with_settings opening (all_settings script) in
+    let set : Draft = with_settings opening_draft (all_settings script) in
     let named = tables_back set script.schema script.schema refl refl ok in
     let declared : Draft = record set { section = named.at; schema = script.schema } in
     let filled : Draft = record declared { rows = script.rows } in
@@ -137,12 +138,12 @@ whole_back script fits ok =
     let asked = lists_back filled 1 [] script.lists for_txns refl lists_are fits.lists.each (omega (arith, no_requests script.workers, fits.lists.requests)) in
     let requested : Draft = record filled { section = asked.at; lists = script.lists } in
     let scheduled = schedule_back script requested fits refl refl refl asked.early in
-    let to_tables : reads opening (settings ++ tables) ≡ Ok declared = more_lines opening set settings tables (settings_back script fits) ∙ named.is in
-    let to_rows : reads opening (settings ++ tables ++ rows) ≡ Ok filled = more_lines opening declared (settings ++ tables) rows to_tables ∙ rows_back script declared fits ok refl refl named.there in
-    let to_txns : reads opening (settings ++ tables ++ rows ++ txns) ≡ Ok requested = more_lines opening filled (settings ++ tables ++ rows) txns to_rows ∙ asked.is in
+    let to_tables : reads opening_draft (settings ++ tables) ≡ Ok declared = more_lines opening_draft set settings tables (settings_back script fits) ∙ named.is in
+    let to_rows : reads opening_draft (settings ++ tables ++ rows) ≡ Ok filled = more_lines opening_draft declared (settings ++ tables) rows to_tables ∙ rows_back script declared fits ok refl refl named.there in
+    let to_txns : reads opening_draft (settings ++ tables ++ rows ++ txns) ≡ Ok requested = more_lines opening_draft filled (settings ++ tables ++ rows) txns to_rows ∙ asked.is in
     record {
       at = scheduled.at;
-      is = more_lines opening requested (settings ++ tables ++ rows ++ txns) events to_txns ∙ scheduled.is;
+      is = more_lines opening_draft requested (settings ++ tables ++ rows ++ txns) events to_txns ∙ scheduled.is;
     }
 
 header_ok : header_fault (line_of header_line) ≡ None
@@ -158,4 +159,4 @@ script_back script fits =
     let rest : List Line = setting_lines script ++ map table_line script.schema ++ flat_map (rows_of_table script.schema script.rows) (range_with_len 0 (length script.schema)) ++ list_lines script.schema 1 script.lists ++ event_lines script.events in
     ap (λ lines. read_text lines >>= λ draft. Ok (script_of draft)) (lines_of_text (script_lines script) all)
     ∙ ap (λ fault. after_header fault (map line_of rest) >>= λ draft. Ok (script_of draft)) header_ok
-    ∙ ap (λ r. r >>= λ draft. Ok (script_of draft)) (lines_back 2 opening (whole script back.at) rest (All-tail (All IsWord) header_line rest all) back.is refl)
+    ∙ ap (λ r. r >>= λ draft. Ok (script_of draft)) (lines_back 2 opening_draft (whole script back.at) rest (All-tail (All IsWord) header_line rest all) back.is refl)

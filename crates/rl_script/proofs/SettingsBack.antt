@@ -5,22 +5,22 @@ use Rattle.std.specs.Fmt.{decimal}
 use Rattle.std.proofs.lemmas.Bool.Decides.{nat_tests}
 use Rattle.std.proofs.lemmas.List.{append_assoc}
 use Rattle.std.proofs.lemmas.List.Elements.{All-head, All-tail}
-use Rattle.rl_events.specs.Words.{◌>>=◌}
-use Rattle.rl_events.proofs.PrintedLemmas.{number_decimal, within_decimal}
+use Rattle.rl_base.specs.Results.{◌>>=◌}
+use Rattle.rl_events.proofs.ReadBack.{number_back, within_back}
+use Rattle.rl_text.specs.Numbers.{IsWithin}
 use Rattle.rl_script.specs.declared.draft.Draft.{Draft}
 use Rattle.rl_script.specs.declared.line.LineKind.TheVariants as line
 use Rattle.rl_script.specs.declared.script.Script.{Script}
 use Rattle.rl_script.specs.declared.settings.Settings.{Settings}
 use Rattle.rl_script.specs.declared.settings.SettingWord.{SettingWord}
 use Rattle.rl_script.specs.declared.settings.SettingWord.TheVariants as word
-use Rattle.rl_script.specs.Answers.{as_problem}
-use Rattle.rl_events.specs.Fits.{IsWithin}
+use Rattle.rl_script.specs.Problems.{as_problem}
 use Rattle.rl_script.specs.Fits.{ScriptFits}
 use Rattle.rl_script.specs.Lines.{line_kind}
 use Rattle.rl_script.specs.Printed.{setting_lines, stop_line}
 use Rattle.rl_script.specs.Sections.{is_settings}
-use Rattle.rl_script.specs.Read.{opening, read_words, setting}
-use Rattle.rl_script.specs.Settings.{no_settings, once, one_more, with_setting, workers_of}
+use Rattle.rl_script.specs.Read.{opening_draft, read_words, setting}
+use Rattle.rl_script.specs.Settings.{no_settings, given, once, one_more, with_setting, workers_of}
 use Rattle.rl_script.proofs.LinesBack.{reads, kind_line, no_lines, one_line}
 
 -- the draft with other settings
@@ -38,7 +38,7 @@ stop_set : (s : Settings) (d : ℕ) → IsWithin 1 1000000 d → length s.stops 
 unfolding with_setting
 stop_set s d there few =
     let room : one_more s.stops d ≡ Ok (s.stops ++ d ∷ []) = grind (arith, nat_tests) in
-    ap (λ r. r >>= λ d. one_more s.stops d >>= λ stops. Ok (record s { stops = stops })) (within_decimal 1 1000000 d there.0 there.1 (omega (arith, there.1)))
+    ap (λ r. r >>= λ d. one_more s.stops d >>= λ stops. Ok (record s { stops = stops })) (within_back 1 1000000 d there.0 there.1 (omega (arith, there.1)))
     ∙ ap (λ r. r >>= λ stops. Ok (record s { stops = stops })) room
 
 stops_back : (draft : Draft) (stops : List ℕ) → is_settings draft.section ≡ true → draft.lists ≡ replicate (workers_of draft.settings) [] → All (IsWithin 1 1000000) stops → length draft.settings.stops + length stops ≤ 63
@@ -55,50 +55,45 @@ stops_back draft (d ∷ stops) first empty all few =
 
 -- the settings that are given once
 
+given_back : (low high n : ℕ) → IsWithin low high n → n < 2 ^ 64 → given low high None (decimal n) ≡ Ok (Some n)
+given_back low high n there small = ap (λ r. r >>= λ n. once None n) (within_back low high n there.0 there.1 small)
+
 nodes_set : (s : Settings) (n : ℕ) → s.nodes ≡ None → IsWithin 1 7 n → with_setting s word.Nodes (decimal n) ≡ Ok (record s { nodes = Some n })
 unfolding with_setting
-nodes_set s n new there =
-    ap (λ r. r >>= λ n. once s.nodes n >>= λ nodes. Ok (record s { nodes = nodes })) (within_decimal 1 7 n there.0 there.1 (omega (arith, there.1)))
-    ∙ ap (λ o. once o n >>= λ nodes. Ok (record s { nodes = nodes })) new
+nodes_set s n new there = rw new (ap (λ r. r >>= λ nodes. Ok (record s { nodes = nodes })) (given_back 1 7 n there (omega (arith, there.1))))
 
 workers_set : (s : Settings) (n : ℕ) → s.workers ≡ None → IsWithin 1 16 n → with_setting s word.Workers (decimal n) ≡ Ok (record s { workers = Some n })
 unfolding with_setting
-workers_set s n new there =
-    ap (λ r. r >>= λ n. once s.workers n >>= λ workers. Ok (record s { workers = workers })) (within_decimal 1 16 n there.0 there.1 (omega (arith, there.1)))
-    ∙ ap (λ o. once o n >>= λ workers. Ok (record s { workers = workers })) new
+workers_set s n new there = rw new (ap (λ r. r >>= λ workers. Ok (record s { workers = workers })) (given_back 1 16 n there (omega (arith, there.1))))
 
 batch_set : (s : Settings) (n : ℕ) → s.batch ≡ None → IsWithin 1 64 n → with_setting s word.Batch (decimal n) ≡ Ok (record s { batch = Some n })
 unfolding with_setting
-batch_set s n new there =
-    ap (λ r. r >>= λ n. once s.batch n >>= λ batch. Ok (record s { batch = batch })) (within_decimal 1 64 n there.0 there.1 (omega (arith, there.1)))
-    ∙ ap (λ o. once o n >>= λ batch. Ok (record s { batch = batch })) new
+batch_set s n new there = rw new (ap (λ r. r >>= λ batch. Ok (record s { batch = batch })) (given_back 1 64 n there (omega (arith, there.1))))
 
 loss_set : (s : Settings) (n : ℕ) → s.loss ≡ None → n ≤ 999 → with_setting s word.Loss (decimal n) ≡ Ok (record s { loss = Some n })
 unfolding with_setting
-loss_set s n new there =
-    ap (λ r. r >>= λ n. once s.loss n >>= λ loss. Ok (record s { loss = loss })) (within_decimal 0 999 n (omega arith) there (omega arith))
-    ∙ ap (λ o. once o n >>= λ loss. Ok (record s { loss = loss })) new
+loss_set s n new there = rw new (ap (λ r. r >>= λ loss. Ok (record s { loss = loss })) (given_back 0 999 n (omega arith, there) (omega arith)))
 
 seed_set : (s : Settings) (n : ℕ) → s.seed ≡ None → n < 2 ^ 64 → with_setting s word.Seed (decimal n) ≡ Ok (record s { seed = Some n })
 unfolding with_setting
 seed_set s n new there =
-    ap (λ r. r >>= λ n. once s.seed n >>= λ seed. Ok (record s { seed = seed })) (number_decimal n there)
+    ap (λ r. r >>= λ n. once s.seed n >>= λ seed. Ok (record s { seed = seed })) (number_back n there)
     ∙ ap (λ o. once o n >>= λ seed. Ok (record s { seed = seed })) new
 
 -- all of them
 abbrev pub all_settings : Script → Settings
 all_settings script = record { nodes = Some script.nodes; workers = Some script.workers; batch = Some script.batch; loss = Some script.loss; seed = Some script.seed; stops = script.stops }
 
-pub settings_back : (script : Script) → ScriptFits script → reads opening (setting_lines script) ≡ Ok (with_settings opening (all_settings script))
+pub settings_back : (script : Script) → ScriptFits script → reads opening_draft (setting_lines script) ≡ Ok (with_settings opening_draft (all_settings script))
 settings_back script fits =
     let s1 : Settings = record no_settings { nodes = Some script.nodes } in
     let s2 : Settings = record s1 { workers = Some script.workers } in
     let s3 : Settings = record s2 { batch = Some script.batch } in
     let s4 : Settings = record s3 { loss = Some script.loss } in
     let s5 : Settings = record s4 { seed = Some script.seed } in
-    one_line opening (with_settings opening s1) _ _ (setting_line opening (codes "nodes") (decimal script.nodes) word.Nodes s1 refl refl refl (nodes_set no_settings script.nodes refl fits.nodes))
-    ∙ one_line (with_settings opening s1) (with_settings opening s2) _ _ (setting_line (with_settings opening s1) (codes "workers") (decimal script.workers) word.Workers s2 refl refl refl (workers_set s1 script.workers refl fits.workers))
-    ∙ one_line (with_settings opening s2) (with_settings opening s3) _ _ (setting_line (with_settings opening s2) (codes "batch") (decimal script.batch) word.Batch s3 refl refl refl (batch_set s2 script.batch refl fits.batch))
-    ∙ one_line (with_settings opening s3) (with_settings opening s4) _ _ (setting_line (with_settings opening s3) (codes "loss") (decimal script.loss) word.Loss s4 refl refl refl (loss_set s3 script.loss refl fits.loss))
-    ∙ one_line (with_settings opening s4) (with_settings opening s5) _ _ (setting_line (with_settings opening s4) (codes "seed") (decimal script.seed) word.Seed s5 refl refl refl (seed_set s4 script.seed refl fits.seed))
-    ∙ stops_back (with_settings opening s5) script.stops refl refl fits.stops (omega (arith, fits.few_stops))
+    one_line opening_draft (with_settings opening_draft s1) _ _ (setting_line opening_draft (codes "nodes") (decimal script.nodes) word.Nodes s1 refl refl refl (nodes_set no_settings script.nodes refl fits.nodes))
+    ∙ one_line (with_settings opening_draft s1) (with_settings opening_draft s2) _ _ (setting_line (with_settings opening_draft s1) (codes "workers") (decimal script.workers) word.Workers s2 refl refl refl (workers_set s1 script.workers refl fits.workers))
+    ∙ one_line (with_settings opening_draft s2) (with_settings opening_draft s3) _ _ (setting_line (with_settings opening_draft s2) (codes "batch") (decimal script.batch) word.Batch s3 refl refl refl (batch_set s2 script.batch refl fits.batch))
+    ∙ one_line (with_settings opening_draft s3) (with_settings opening_draft s4) _ _ (setting_line (with_settings opening_draft s3) (codes "loss") (decimal script.loss) word.Loss s4 refl refl refl (loss_set s3 script.loss refl fits.loss))
+    ∙ one_line (with_settings opening_draft s4) (with_settings opening_draft s5) _ _ (setting_line (with_settings opening_draft s4) (codes "seed") (decimal script.seed) word.Seed s5 refl refl refl (seed_set s4 script.seed refl fits.seed))
+    ∙ stops_back (with_settings opening_draft s5) script.stops refl refl fits.stops (omega (arith, fits.few_stops))

@@ -24,13 +24,14 @@ use Rattle.rl_txn.specs.declared.op.Operand.TheVariants.{Reg, Num}
 use Rattle.rl_txn.specs.declared.op.Rel.{Rel}
 use Rattle.rl_txn.specs.declared.op.Rel.TheVariants.{Eq, Ne, Lt, Le, Gt, Ge}
 use Rattle.rl_events.specs.Fits.{EventFits, count_of}
-use Rattle.rl_events.specs.Printed.{event_words, line_of}
+use Rattle.rl_text.specs.Printed.{line_of, Line, text_of}
+use Rattle.rl_events.specs.Printed.{event_words}
 use Rattle.rl_events.specs.declared.event.Event.{Event}
 use Rattle.rl_events.specs.declared.event.Event.TheVariants as event
 use Rattle.rl_events.proofs.ReadBack.{IsSmall, small_by_fit}
 use Rattle.rl_script.specs.declared.script.Script.{Script}
 use Rattle.rl_script.specs.Fits.{ColumnsFit, ScriptFits}
-use Rattle.rl_script.specs.Printed.{Line, event_lines, header_line, list_lines, op_words, operand_word, printed, register_word, relation_word, row_lines, rows_of_table, script_lines, setting_lines, stop_line, table_line, text_of, txn_lines}
+use Rattle.rl_script.specs.Printed.{event_lines, header_line, list_lines, op_words, operand_word, printed, register_word, relation_word, row_lines, rows_of_table, script_lines, setting_lines, stop_line, table_line, txn_lines}
 use Rattle.rl_script.proofs.FitsLemmas.{few_keys}
 
 -- words

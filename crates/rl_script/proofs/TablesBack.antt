@@ -9,40 +9,31 @@ use Rattle.std.proofs.lemmas.Bool.Decides.{nat_tests}
 use Rattle.std.proofs.lemmas.List.{append_assoc}
 use Rattle.std.proofs.lemmas.List.Sums.{sum_by-cons, sum_by-append}
 use Rattle.rl_base.specs.declared.limit.LimitName.TheVariants as limits
+use Rattle.rl_base.proofs.ListsLemmas.{get_last}
+use Rattle.rl_value.specs.Declare.{refusal}
 use Rattle.rl_value.specs.Tables.{Table, IsTable, IsSchema, name_of, table_named, record_count}
-use Rattle.rl_events.specs.Words.{◌>>=◌, within}
+use Rattle.rl_events.specs.Words.{within}
+use Rattle.rl_base.specs.Results.{◌>>=◌}
+use Rattle.rl_events.proofs.ReadBack.{within_back}
 use Rattle.rl_events.specs.declared.kind.Kind.TheVariants.{Duplicate, Name}
-use Rattle.rl_events.proofs.PrintedLemmas.{within_decimal}
+use Rattle.rl_value.proofs.SchemaLemmas.{found_earlier}
 use Rattle.rl_script.specs.declared.draft.Draft.{Draft}
 use Rattle.rl_script.specs.declared.draft.Section.{Section}
 use Rattle.rl_script.specs.declared.draft.Section.TheVariants as section
 use Rattle.rl_script.specs.declared.fault.Problem.TheVariants.{Fault, Limit}
 use Rattle.rl_script.specs.declared.line.LineKind.TheVariants as line
-use Rattle.rl_script.specs.Answers.{as_problem}
+use Rattle.rl_script.specs.Problems.{as_problem}
 use Rattle.rl_script.specs.Sections.{is_before_requests}
 use Rattle.rl_script.specs.Printed.{table_line}
-use Rattle.rl_script.specs.Read.{declared, joined, with_table}
+use Rattle.rl_script.specs.Read.{declared, table_joined, with_table}
 use Rattle.rl_script.proofs.LinesBack.{reads, kind_line, no_lines, one_line}
-
--- the place at which a list has something, in a longer list
-found_earlier : (p : Table → Bool) (i k : ℕ) (tables more : List Table) → position_from p i tables ≡ Some k → (position_from p i (tables ++ more) ≡ Some k) × (k < i + length tables)
-found_earlier p i k [] more h = absurd (let e : None ≡ Some k = h in cc)
-found_earlier p i k (t ∷ tables) more h = go (p t) h (λ later. found_earlier p (i + 1) k tables more later)
-  where
-    go : (b : Bool) → cond b (Some i) (position_from p (i + 1) tables) ≡ Some k → (position_from p (i + 1) tables ≡ Some k → (position_from p (i + 1) (tables ++ more) ≡ Some k) × (k < i + 1 + length tables)) → (cond b (Some i) (position_from p (i + 1) (tables ++ more)) ≡ Some k) × (k < i + suc (length tables))
-    go true here later = (here, let same : i ≡ k = cc in omega arith)
-    go false here later = ((later here).0, omega (arith, (later here).1))
-
-at_once : (front : List Table) (x : Table) (more : List Table) → slice_get (front ++ x ∷ more) (length front) ≡ Some x
-at_once [] x more = refl
-at_once (y ∷ front) x more = at_once front x more
 
 -- a table whose name is its own is none of those before it
 new_name : (front : List Table) (x : Table) (more : List Table) → IsSchema (front ++ x ∷ more) → table_named x.name front ≡ None
 new_name front x more all = go (table_named x.name front) refl
   where
     name_is : name_of (front ++ x ∷ more) (length front) ≡ x.name
-    name_is = ap (λ o. option_map_or (λ table. table.name) o []) (at_once front x more)
+    name_is = ap (λ o. option_map_or (λ table. table.name) o []) (get_last front x more)
 
     own : table_named x.name (front ++ x ∷ more) ≡ Some (length front)
     own = subst (λ (name : List ℕ). table_named name (front ++ x ∷ more) ≡ Some (length front)) name_is (all.names (length front) (omega (arith, length-append front (x ∷ more))))
@@ -54,26 +45,20 @@ new_name front x more all = go (table_named x.name front) refl
         let same : k ≡ length front = let e : Some k ≡ Some (length front) = sym there.0 ∙ own in cc in
         absurd (omega (arith, there.1))
 
-joined_back : (draft : Draft) (name : List ℕ) (size columns : ℕ) → table_named name draft.schema ≡ None → length draft.schema < 16 → record_count draft.schema + size ≤ 65536 → joined draft name size columns ≡ Ok (with_table draft name size columns)
-joined_back draft name size columns new few fits =
-    let not_full : (length draft.schema == 16) ≡ false = grind (arith, nat_tests) in
-    let room : nat_lt 65536 (record_count draft.schema + size) ≡ false = grind (arith, nat_tests) in
-    ap (λ o. if is_some o then Err (Fault Duplicate)
-    else (if length draft.schema == 16 then Err (Limit limits.Tables 16)
-    else (if nat_lt 65536 (record_count draft.schema + size) then Err (Limit limits.Records 65536)
-    else Ok (with_table draft name size columns)))) new
-    ∙ ap (λ b. if b then Err (Limit limits.Tables 16)
-    else (if nat_lt 65536 (record_count draft.schema + size) then Err (Limit limits.Records 65536)
-    else Ok (with_table draft name size columns))) not_full
-    ∙ ap (λ b. if b then Err (Limit limits.Records 65536) else Ok (with_table draft name size columns)) room
+-- nothing keeps a new table from being declared where there is room
+none_refused : (name : List ℕ) (size : ℕ) (tables : List Table) → table_named name tables ≡ None → length tables < 16 → record_count tables + size ≤ 65536 → refusal name size tables ≡ None
+none_refused name size tables new few fits = grind (arith, nat_tests)
+
+joined_back : (draft : Draft) (name : List ℕ) (size columns : ℕ) → table_named name draft.schema ≡ None → length draft.schema < 16 → record_count draft.schema + size ≤ 65536 → table_joined draft name size columns ≡ Ok (with_table draft name size columns)
+joined_back draft name size columns new few fits = rw (none_refused name size draft.schema new few fits, table_joined) refl
 
 declared_back : (draft : Draft) (table : Table) → IsTable table → table_named table.name draft.schema ≡ None → length draft.schema < 16 → record_count draft.schema + table.size ≤ 65536
     → declared draft table.name (decimal table.size) (decimal table.columns) ≡ Ok (with_table draft table.name table.size table.columns)
 unfolding declared
 declared_back draft table ok new few fits =
-    ap (λ b. (if b then Ok table.name else Err (Fault Name)) >>= λ name. as_problem (within 1 65536 (decimal table.size)) >>= λ size. as_problem (within 1 4 (decimal table.columns)) >>= λ columns. joined draft name size columns) ok.named
-    ∙ ap (λ r. as_problem r >>= λ size. as_problem (within 1 4 (decimal table.columns)) >>= λ columns. joined draft table.name size columns) (within_decimal 1 65536 table.size ok.some_keys ok.few_keys (omega (arith, ok.few_keys)))
-    ∙ ap (λ r. as_problem r >>= λ columns. joined draft table.name table.size columns) (within_decimal 1 4 table.columns ok.some_columns ok.few_columns (omega (arith, ok.few_columns)))
+    ap (λ b. (if b then Ok table.name else Err (Fault Name)) >>= λ name. as_problem (within 1 65536 (decimal table.size)) >>= λ size. as_problem (within 1 4 (decimal table.columns)) >>= λ columns. table_joined draft name size columns) ok.named
+    ∙ ap (λ r. as_problem r >>= λ size. as_problem (within 1 4 (decimal table.columns)) >>= λ columns. table_joined draft table.name size columns) (within_back 1 65536 table.size ok.some_keys ok.few_keys (omega (arith, ok.few_keys)))
+    ∙ ap (λ r. as_problem r >>= λ columns. table_joined draft table.name table.size columns) (within_back 1 4 table.columns ok.some_columns ok.few_columns (omega (arith, ok.few_columns)))
     ∙ joined_back draft table.name table.size table.columns new few fits
 
 -- what the lines of some tables are read as

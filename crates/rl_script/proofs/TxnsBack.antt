@@ -11,18 +11,19 @@ use Rattle.rl_base.specs.declared.limit.LimitName.TheVariants as limits
 use Rattle.rl_value.specs.Tables.{IsSchema}
 use Rattle.rl_txn.specs.Fits.{OpFits, TxnFits}
 use Rattle.rl_txn.specs.declared.op.Op.{Op}
-use Rattle.rl_events.specs.Words.{◌>>=◌}
-use Rattle.rl_events.proofs.PrintedLemmas.{within_decimal}
+use Rattle.rl_base.specs.Results.{◌>>=◌}
+use Rattle.rl_events.proofs.ReadBack.{within_back}
+use Rattle.rl_text.specs.Printed.{Line}
 use Rattle.rl_script.specs.declared.draft.Draft.{Draft}
 use Rattle.rl_script.specs.declared.draft.OpenTxn.{OpenTxn}
 use Rattle.rl_script.specs.declared.draft.Section.{Section}
 use Rattle.rl_script.specs.declared.draft.Section.TheVariants as section
 use Rattle.rl_script.specs.declared.fault.Problem.TheVariants.{Limit}
 use Rattle.rl_script.specs.declared.line.LineKind.TheVariants as line
-use Rattle.rl_script.specs.Answers.{as_problem}
+use Rattle.rl_script.specs.Problems.{as_problem}
 use Rattle.rl_script.specs.Sections.{is_events}
-use Rattle.rl_script.specs.Printed.{Line, list_lines, op_words, txn_lines}
-use Rattle.rl_script.specs.Read.{begun, ended, in_order, with_op}
+use Rattle.rl_script.specs.Printed.{list_lines, op_words, txn_lines}
+use Rattle.rl_script.specs.Read.{txn_begun, txn_ended, in_order, with_op}
 use Rattle.rl_script.proofs.FitsLemmas.{sum-with_last}
 use Rattle.rl_script.proofs.LinesBack.{reads, kind_line, more_lines, no_lines, one_line}
 use Rattle.rl_script.proofs.OpsBack.{op_line_back}
@@ -52,11 +53,11 @@ abbrev requested : Draft → ℕ → List Op → Draft
 requested draft worker txn = record draft { section = section.Transactions; lists = with_last draft.lists (worker - 1) txn }
 
 begun_back : (draft : Draft) (worker : ℕ) → 1 ≤ worker → worker ≤ length draft.lists → length draft.lists ≤ 16 → sum_by (λ l. length l) draft.lists < 8192
-    → begun draft (decimal worker) ≡ Ok (record draft { section = section.Transactions; current = opened worker [] })
-unfolding begun
+    → txn_begun draft (decimal worker) ≡ Ok (record draft { section = section.Transactions; current = opened worker [] })
+unfolding txn_begun
 begun_back draft worker some there few room =
     let more : (sum_by (λ l. length l) draft.lists == 8192) ≡ false = grind (arith, nat_tests) in
-    ap (λ r. as_problem r >>= λ worker. if sum_by (λ l. length l) draft.lists == 8192 then Err (Limit limits.Requests 8192) else Ok (record draft { section = section.Transactions; current = opened worker [] })) (within_decimal 1 (length draft.lists) worker some there (omega arith))
+    ap (λ r. as_problem r >>= λ worker. if sum_by (λ l. length l) draft.lists == 8192 then Err (Limit limits.Requests 8192) else Ok (record draft { section = section.Transactions; current = opened worker [] })) (within_back 1 (length draft.lists) worker some there (omega arith))
     ∙ ap (λ b. if b then Err (Limit limits.Requests 8192) else Ok (record draft { section = section.Transactions; current = opened worker [] })) more
 
 txn_back : (draft : Draft) (worker : ℕ) (txn : List Op) → IsSchema draft.schema → draft.current ≡ None → is_events draft.section ≡ false → TxnFits draft.schema txn → 1 ≤ worker → worker ≤ length draft.lists → length draft.lists ≤ 16 → sum_by (λ l. length l) draft.lists < 8192
@@ -68,8 +69,8 @@ txn_back draft worker txn ok none early fits some there few room =
     one_line draft first (codes "txn" ∷ decimal worker ∷ []) (map (op_words draft.schema) txn ++ (codes "end" ∷ []) ∷ [])
     (kind_line draft (codes "txn") (decimal worker ∷ []) line.Txn refl refl order ∙ begun_back draft worker some there few room)
     ∙ more_lines first then_all (map (op_words draft.schema) txn) ((codes "end" ∷ []) ∷ []) (ops_back first worker [] txn ok refl fits.each (omega (arith, fits.few)))
-    ∙ one_line then_all (ended then_all) (codes "end" ∷ []) [] (kind_line then_all (codes "end") [] line.End refl refl refl)
-    ∙ no_lines (ended then_all)
+    ∙ one_line then_all (txn_ended then_all) (codes "end" ∷ []) [] (kind_line then_all (codes "end") [] line.End refl refl refl)
+    ∙ no_lines (txn_ended then_all)
     ∙ ap (λ (o : Option OpenTxn). Ok (record draft { section = section.Transactions; lists = with_last draft.lists (worker - 1) txn; current = o })) (sym none)
 
 with_last_at : {X : Type 0} (front back : List (List X)) (list : List X) (x : X) → with_last (front ++ list ∷ back) (length front) x ≡ front ++ (list ++ x ∷ []) ∷ back

@@ -10,15 +10,16 @@ use Rattle.rl_value.specs.Tables.{Table, IsTable, IsSchema, name_of, size_of}
 use Rattle.rl_txn.specs.Fits.{TxnFits}
 use Rattle.rl_txn.specs.declared.op.Op.{Op}
 use Rattle.rl_events.specs.Fits.{EventFits}
+use Rattle.rl_text.proofs.WordsBack.{IsWord, decimal_is_word, numbers_are_words, one_number, one_word}
+use Rattle.rl_text.specs.Printed.{Line}
 use Rattle.rl_events.specs.Printed.{event_words}
 use Rattle.rl_events.specs.declared.event.Event.{Event}
-use Rattle.rl_events.proofs.PrintedLemmas.{IsWord, decimal_is_word}
-use Rattle.rl_events.proofs.ReadBack.{event_words_are_words, one_number, small_by_fit}
+use Rattle.rl_events.proofs.ReadBack.{event_words_are_words, small_by_fit}
 use Rattle.rl_script.specs.declared.script.Script.{Script}
 use Rattle.rl_script.specs.Fits.{ColumnsFit, ScriptFits}
-use Rattle.rl_script.specs.Printed.{Line, event_lines, header_line, list_lines, op_words, row_lines, rows_of_table, script_lines, setting_lines, stop_line, table_line, txn_lines}
+use Rattle.rl_script.specs.Printed.{event_lines, header_line, list_lines, op_words, row_lines, rows_of_table, script_lines, setting_lines, stop_line, table_line, txn_lines}
 use Rattle.rl_script.proofs.FitsLemmas.{few_keys}
-use Rattle.rl_script.proofs.OpsBack.{name_is_word, numbers_are_words, op_words_are_words, table_name_is_word}
+use Rattle.rl_script.proofs.OpsBack.{name_is_word, op_words_are_words, table_name_is_word}
 
 -- lines that are made of words
 abbrev AreWords : List Line → Type 0
@@ -27,9 +28,6 @@ AreWords lines = All (All IsWord) lines
 each_of : {A : Type 0} (f : A → List Line) → (xs : List A) → ((x : A) → AreWords (f x)) → AreWords (flat_map f xs)
 each_of f [] all = All-nil (All IsWord)
 each_of f (x ∷ xs) all = All-append (All IsWord) (f x) (flat_map f xs) (all x) (each_of f xs all)
-
-one_word : (word : List ℕ) → IsWord word → All IsWord (word ∷ [])
-one_word word is = All-cons IsWord word [] is (All-nil IsWord)
 
 settings_are : (script : Script) → ScriptFits script → AreWords (setting_lines script)
 settings_are script fits =

@@ -4,6 +4,7 @@ pub mod Fits
 pub mod Lines
 pub mod Operations
 pub mod Printed
+pub mod Problems
 pub mod Read
 pub mod Sections
 pub mod Settings

@@ -1,5 +1,5 @@
 -- What the line of an op says, without its first word.
-use Rattle.std.specs.Prelude.{ℕ, ◌-◌, ◌&&◌, List, [], ◌∷◌, length, ◌==◌, nat_le, Some, None, Result, Ok, Err, if◌then◌else◌}
+use Rattle.std.specs.Prelude.{ℕ, ◌-◌, ◌&&◌, List, [], ◌∷◌, length, ◌==◌, nat_le, Some, None, ok_or, Result, Ok, Err, if◌then◌else◌}
 use Rattle.rl_value.specs.Tables.{Table, table_named, columns_of}
 use Rattle.rl_txn.specs.declared.op.Op.{Op}
 use Rattle.rl_txn.specs.declared.op.Operand.{Operand}
@@ -8,15 +8,16 @@ use Rattle.rl_events.specs.declared.kind.Kind.{Kind}
 use Rattle.rl_events.specs.declared.kind.Kind.TheVariants.{Count, UnknownTable}
 use Rattle.rl_script.specs.declared.line.OpWord.{OpWord}
 use Rattle.rl_script.specs.declared.line.OpWord.TheVariants as word
-use Rattle.rl_events.specs.Words.{◌>>=◌, or_fault, within}
+use Rattle.rl_events.specs.Words.{within}
+use Rattle.rl_base.specs.Results.{◌>>=◌}
 use Rattle.rl_script.specs.Words.{register, operand, relation}
 
 -- the number of a table that is declared
-abbrev pub known : List Table → List ℕ → Result ℕ Kind
-known tables name = or_fault UnknownTable (table_named name tables)
+abbrev pub known_table : List Table → List ℕ → Result ℕ Kind
+known_table tables name = ok_or (table_named name tables) UnknownTable
 
 -- the table of a line that gives a whole row: as many columns as it has, or 1 to 4 where it is not declared
-abbrev pub table_for : List Table → List ℕ → ℕ → Result ℕ Kind
+abbrev pub table_for : List Table → List ℕ → (count : ℕ) → Result ℕ Kind
 table_for tables name count = elim (table_named name tables) [
   | Some t ↦ if count == columns_of tables t then Ok t else Err Count
   | None ↦ if nat_le 1 count && nat_le count 4 then Err UnknownTable else Err Count
@@ -37,7 +38,7 @@ set_of d a = do
   a ← operand a
   Ok (op.Set d a)
 
--- `D A B`, a register and two operands
+-- `D A B`, a register and two operands, of `add`, `sub` and `mul`
 unfoldable pub terms_of : List ℕ → List ℕ → List ℕ → Result (ℕ × Operand × Operand) Kind
 terms_of d a b = do
   d ← register d
@@ -45,22 +46,10 @@ terms_of d a b = do
   b ← operand b
   Ok (d, a, b)
 
--- `add D A B`
-abbrev pub add_of : List ℕ → List ℕ → List ℕ → Result Op Kind
-add_of d a b = terms_of d a b >>= λ t. Ok (op.Add t.0 t.1 t.2)
-
--- `sub D A B`
-abbrev pub sub_of : List ℕ → List ℕ → List ℕ → Result Op Kind
-sub_of d a b = terms_of d a b >>= λ t. Ok (op.Sub t.0 t.1 t.2)
-
--- `mul D A B`
-abbrev pub mul_of : List ℕ → List ℕ → List ℕ → Result Op Kind
-mul_of d a b = terms_of d a b >>= λ t. Ok (op.Mul t.0 t.1 t.2)
-
 -- `get T K C D`: C a column of the table
 unfoldable pub get_of : List Table → List ℕ → List ℕ → List ℕ → List ℕ → Result Op Kind
 get_of tables table key column d = do
-  t ← known tables table
+  t ← known_table tables table
   key ← operand key
   c ← within 0 (columns_of tables t - 1) column
   d ← register d
@@ -69,7 +58,7 @@ get_of tables table key column d = do
 -- `has T K D`
 unfoldable pub has_of : List Table → List ℕ → List ℕ → List ℕ → Result Op Kind
 has_of tables table key d = do
-  t ← known tables table
+  t ← known_table tables table
   key ← operand key
   d ← register d
   Ok (op.Has t key d)
@@ -85,14 +74,14 @@ put_of tables table key values = do
 -- `del T K`
 unfoldable pub del_of : List Table → List ℕ → List ℕ → Result Op Kind
 del_of tables table key = do
-  t ← known tables table
+  t ← known_table tables table
   key ← operand key
   Ok (op.Del t key)
 
 -- `scan T K N C D`: C a column of the table
 unfoldable pub scan_of : List Table → List ℕ → List ℕ → List ℕ → List ℕ → List ℕ → Result Op Kind
 scan_of tables table key count column d = do
-  t ← known tables table
+  t ← known_table tables table
   key ← operand key
   n ← within 1 256 count
   c ← within 0 (columns_of tables t - 1) column
@@ -116,18 +105,12 @@ skip_of a rel b count = do
   n ← within 1 64 count
   Ok (op.Skip a rel b n)
 
--- `out A`
-unfoldable pub out_of : List ℕ → Result Op Kind
-out_of a = do
-  a ← operand a
-  Ok (op.Out a)
-
--- the op of a line that begins with an op's word
+-- the op of a line, without its first word: so many words, and each what it must be
 abbrev pub read_op : List Table → OpWord → List (List ℕ) → Result Op Kind
 read_op tables word.Set (d ∷ a ∷ []) = set_of d a
-read_op tables word.Add (d ∷ a ∷ b ∷ []) = add_of d a b
-read_op tables word.Sub (d ∷ a ∷ b ∷ []) = sub_of d a b
-read_op tables word.Mul (d ∷ a ∷ b ∷ []) = mul_of d a b
+read_op tables word.Add (d ∷ a ∷ b ∷ []) = terms_of d a b >>= λ t. Ok (op.Add t.0 t.1 t.2)
+read_op tables word.Sub (d ∷ a ∷ b ∷ []) = terms_of d a b >>= λ t. Ok (op.Sub t.0 t.1 t.2)
+read_op tables word.Mul (d ∷ a ∷ b ∷ []) = terms_of d a b >>= λ t. Ok (op.Mul t.0 t.1 t.2)
 read_op tables word.Get (table ∷ key ∷ column ∷ d ∷ []) = get_of tables table key column d
 read_op tables word.Has (table ∷ key ∷ d ∷ []) = has_of tables table key d
 read_op tables word.Put (table ∷ key ∷ values) = put_of tables table key values
@@ -135,5 +118,5 @@ read_op tables word.Del (table ∷ key ∷ []) = del_of tables table key
 read_op tables word.Scan (table ∷ key ∷ count ∷ column ∷ d ∷ []) = scan_of tables table key count column d
 read_op tables word.Need (a ∷ rel ∷ b ∷ []) = need_of a rel b
 read_op tables word.Skip (a ∷ rel ∷ b ∷ count ∷ []) = skip_of a rel b count
-read_op tables word.Out (a ∷ []) = out_of a
+read_op tables word.Out (a ∷ []) = operand a >>= λ a. Ok (op.Out a)
 read_op tables word words = Err Count

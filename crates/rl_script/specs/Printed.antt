@@ -11,13 +11,10 @@ use Rattle.rl_txn.specs.declared.op.Operand.{Operand}
 use Rattle.rl_txn.specs.declared.op.Operand.TheVariants.{Reg, Num}
 use Rattle.rl_txn.specs.declared.op.Rel.{Rel}
 use Rattle.rl_txn.specs.declared.op.Rel.TheVariants.{Eq, Ne, Lt, Le, Gt, Ge}
-use Rattle.rl_events.specs.Printed.{line_of, event_words}
+use Rattle.rl_events.specs.Printed.{event_words}
+use Rattle.rl_text.specs.Printed.{Line, text_of}
 use Rattle.rl_events.specs.declared.event.Event.{Event}
 use Rattle.rl_script.specs.declared.script.Script.{Script}
-
--- a line is its words
-abbrev pub Line : Type 0
-Line = List (List ℕ)
 
 -- `r` and a number
 abbrev pub register_word : ℕ → List ℕ
@@ -47,7 +44,8 @@ op_words tables (op.Get t k c d) = codes "get" ∷ name_of tables t ∷ operand_
 op_words tables (op.Has t k d) = codes "has" ∷ name_of tables t ∷ operand_word k ∷ register_word d ∷ []
 op_words tables (op.Put t k values) = codes "put" ∷ name_of tables t ∷ operand_word k ∷ map operand_word values
 op_words tables (op.Del t k) = codes "del" ∷ name_of tables t ∷ operand_word k ∷ []
-op_words tables (op.Scan t k n c d) = codes "scan" ∷ name_of tables t ∷ operand_word k ∷ decimal n ∷ decimal c ∷ register_word d ∷ []
+op_words tables (op.Scan t k n c d) =
+    codes "scan" ∷ name_of tables t ∷ operand_word k ∷ decimal n ∷ decimal c ∷ register_word d ∷ []
 op_words tables (op.Need a rel b) = codes "need" ∷ operand_word a ∷ relation_word rel ∷ operand_word b ∷ []
 op_words tables (op.Skip a rel b n) = codes "skip" ∷ operand_word a ∷ relation_word rel ∷ operand_word b ∷ decimal n ∷ []
 op_words tables (op.Out a) = codes "out" ∷ operand_word a ∷ []
@@ -63,28 +61,33 @@ stop_line d = codes "stop" ∷ decimal d ∷ []
 -- the settings, each of which is printed, and the stops
 abbrev pub setting_lines : Script → List Line
 setting_lines script =
-    (codes "nodes" ∷ decimal script.nodes ∷ []) ∷ (codes "workers" ∷ decimal script.workers ∷ []) ∷ (codes "batch" ∷ decimal script.batch ∷ [])
-    ∷ (codes "loss" ∷ decimal script.loss ∷ []) ∷ (codes "seed" ∷ decimal script.seed ∷ []) ∷ map stop_line script.stops
+    (codes "nodes" ∷ decimal script.nodes ∷ [])
+    ∷ (codes "workers" ∷ decimal script.workers ∷ [])
+    ∷ (codes "batch" ∷ decimal script.batch ∷ [])
+    ∷ (codes "loss" ∷ decimal script.loss ∷ [])
+    ∷ (codes "seed" ∷ decimal script.seed ∷ [])
+    ∷ map stop_line script.stops
 
 -- `table NAME SIZE COLUMNS`
 abbrev pub table_line : Table → Line
 table_line table = codes "table" ∷ table.name ∷ decimal table.size ∷ decimal table.columns ∷ []
 
 -- the line of a row, where it is present
-abbrev pub row_lines : List ℕ → ℕ → Option (List ℕ) → List Line
+abbrev pub row_lines : (name : List ℕ) (key : ℕ) → Option (List ℕ) → List Line
 row_lines name key None = []
 row_lines name key (Some row) = (codes "row" ∷ name ∷ decimal key ∷ map decimal row) ∷ []
 
 -- the rows of the table of a number, by key
-abbrev pub rows_of_table : List Table → Rows → ℕ → List Line
-rows_of_table tables rows t = flat_map (λ key. row_lines (name_of tables t) key (finite.get rows (t, key))) (range_with_len 0 (size_of tables t))
+abbrev pub rows_of_table : List Table → Rows → (t : ℕ) → List Line
+rows_of_table tables rows t =
+    flat_map (λ key. row_lines (name_of tables t) key (finite.get rows (t, key))) (range_with_len 0 (size_of tables t))
 
 -- a transaction of a worker
-abbrev pub txn_lines : List Table → ℕ → List Op → List Line
+abbrev pub txn_lines : List Table → (worker : ℕ) → List Op → List Line
 txn_lines tables worker txn = (codes "txn" ∷ decimal worker ∷ []) ∷ map (op_words tables) txn ++ (codes "end" ∷ []) ∷ []
 
 -- the transactions of the workers from the one of a number on
-abbrev pub list_lines : List Table → ℕ → List (List (List Op)) → List Line
+abbrev pub list_lines : List Table → (worker : ℕ) → List (List (List Op)) → List Line
 list_lines tables worker [] = []
 list_lines tables worker (list ∷ lists) = flat_map (txn_lines tables worker) list ++ list_lines tables (worker + 1) lists
 
@@ -93,16 +96,13 @@ abbrev pub event_lines : List Event → List Line
 event_lines [] = []
 event_lines (event ∷ events) = (codes "events" ∷ []) ∷ map event_words (event ∷ events)
 
--- all lines: the settings, the tables, the rows by table and key, the transactions by list and place, and the events
+-- all lines: the settings, the tables, the rows by table and key, the transactions by list and place,
+-- and the events
 abbrev pub script_lines : Script → List Line
 script_lines script =
     header_line ∷ setting_lines script ++ map table_line script.schema
     ++ flat_map (rows_of_table script.schema script.rows) (range_with_len 0 (length script.schema))
     ++ list_lines script.schema 1 script.lists ++ event_lines script.events
-
--- some lines, each ended with byte 10
-abbrev pub text_of : List Line → List ℕ
-text_of lines = flat_map (λ words. line_of words ++ 10 ∷ []) lines
 
 -- the text of a script
 abbrev pub printed : Script → List ℕ

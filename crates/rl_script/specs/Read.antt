@@ -3,14 +3,18 @@ use Rattle.std.specs.Prelude.{ℕ, ◌+◌, ◌-◌, Bool, false, not, ◌&&◌,
 use Rattle.std.specs.Str.{bytes_eq}
 use Rattle.std.specs.FinMap as map
 use Rattle.rl_base.specs.Lists.{with_last}
+use Rattle.rl_base.specs.declared.limit.TheConstants.{ELECTIONS, EVENTS, OPS, RECORDS, REQUESTS, TABLES}
 use Rattle.rl_base.specs.declared.limit.LimitName.TheVariants as limits
 use Rattle.rl_value.specs.Names.{is_name}
-use Rattle.rl_value.specs.Tables.{table_named, size_of, record_count}
+use Rattle.rl_value.specs.Declare.{refusal}
+use Rattle.rl_value.specs.Tables.{size_of}
+use Rattle.rl_value.specs.declared.schema.DeclareError.TheVariants.{DuplicateTable, TooManyTables}
 use Rattle.rl_txn.specs.declared.op.Op.{Op}
 use Rattle.rl_events.specs.Events.{read_event}
 use Rattle.rl_events.specs.Fits.{count_of, elections_of}
-use Rattle.rl_events.specs.Text.{lines_of, words_of, is_printable}
-use Rattle.rl_events.specs.Words.{◌>>=◌, number, within}
+use Rattle.rl_base.specs.Results.{◌>>=◌}
+use Rattle.rl_text.specs.Text.{lines_of, words_of, is_printable}
+use Rattle.rl_events.specs.Words.{number, within}
 use Rattle.rl_events.specs.declared.event.Event.{Event}
 use Rattle.rl_events.specs.declared.line.EventWord.{EventWord}
 use Rattle.rl_events.specs.declared.kind.Kind.TheVariants.{Byte, Header, Word, Order, Count, Name, Duplicate, Unended}
@@ -23,7 +27,7 @@ use Rattle.rl_script.specs.declared.fault.Problem.TheVariants.{Fault, Limit}
 use Rattle.rl_script.specs.declared.line.OpWord.{OpWord}
 use Rattle.rl_script.specs.declared.line.LineKind.{LineKind}
 use Rattle.rl_script.specs.declared.line.LineKind.TheVariants as line
-use Rattle.rl_script.specs.Answers.{as_problem}
+use Rattle.rl_script.specs.Problems.{as_problem}
 use Rattle.rl_script.specs.Sections.{is_settings, is_before_requests, is_events}
 use Rattle.rl_script.specs.Lines.{line_kind}
 use Rattle.rl_script.specs.Operations.{table_for, each_word, read_op}
@@ -36,42 +40,46 @@ setting draft word value = do
   Ok (record draft { settings = settings; lists = replicate (workers_of settings) [] })
 
 -- the tables with one more
-abbrev pub with_table : Draft → List ℕ → ℕ → ℕ → Draft
-with_table draft name size columns = record draft { section = section.Tables; schema = draft.schema ++ record { name = name; size = size; columns = columns } ∷ [] }
+abbrev pub with_table : Draft → List ℕ → (size columns : ℕ) → Draft
+with_table draft name size columns =
+    record draft { section = section.Tables; schema = draft.schema ++ record { name = name; size = size; columns = columns } ∷ [] }
 
--- a new table joins the others, where none has its name and the limits leave room
-abbrev pub joined : Draft → List ℕ → ℕ → ℕ → Result Draft Problem
-joined draft name size columns =
-    if is_some (table_named name draft.schema) then Err (Fault Duplicate)
-    else (if length draft.schema == 16 then Err (Limit limits.Tables 16)
-    else (if nat_lt 65536 (record_count draft.schema + size) then Err (Limit limits.Records 65536)
-    else Ok (with_table draft name size columns)))
+-- a new table joins the others, unless something keeps it from being declared
+abbrev pub table_joined : Draft → List ℕ → (size columns : ℕ) → Result Draft Problem
+table_joined draft name size columns = elim (refusal name size draft.schema) [
+  | None ↦ Ok (with_table draft name size columns)
+  | Some DuplicateTable ↦ Err (Fault Duplicate)
+  | Some TooManyTables ↦ Err (Limit limits.Tables TABLES)
+  | Some e ↦ Err (Limit limits.Records RECORDS)
+]
 
 -- `table NAME SIZE COLUMNS`
 unfoldable pub declared : Draft → List ℕ → List ℕ → List ℕ → Result Draft Problem
 declared draft name size columns = do
   name ← if is_name name then Ok name else Err (Fault Name)
-  size ← as_problem (within 1 65536 size)
+  size ← as_problem (within 1 RECORDS size)
   columns ← as_problem (within 1 4 columns)
-  joined draft name size columns
+  table_joined draft name size columns
 
 -- `row NAME KEY C0` up to the last column: a row that is not given before, KEY below the table's size
-unfoldable pub row_of : Draft → List ℕ → List ℕ → List (List ℕ) → Result Draft Problem
-row_of draft name key cells = do
+unfoldable pub row_joined : Draft → List ℕ → List ℕ → List (List ℕ) → Result Draft Problem
+row_joined draft name key cells = do
   t ← as_problem (table_for draft.schema name (length cells))
   key ← as_problem (within 0 (size_of draft.schema t - 1) key)
   cells ← as_problem (each_word number cells)
-  if is_some (map.get draft.rows (t, key)) then Err (Fault Duplicate) else Ok (record draft { section = section.Tables; rows = map.insert draft.rows (t, key) cells })
+  if is_some (map.get draft.rows (t, key)) then Err (Fault Duplicate)
+    else Ok (record draft { section = section.Tables; rows = map.insert draft.rows (t, key) cells })
 
 -- `txn W`: the next request of one of the lists
-unfoldable pub begun : Draft → List ℕ → Result Draft Problem
-begun draft worker = do
+unfoldable pub txn_begun : Draft → List ℕ → Result Draft Problem
+txn_begun draft worker = do
   worker ← as_problem (within 1 (length draft.lists) worker)
-  if sum_by length draft.lists == 8192 then Err (Limit limits.Requests 8192) else Ok (record draft { section = section.Transactions; current = Some (record { worker = worker; txn = [] }) })
+  if sum_by length draft.lists == REQUESTS then Err (Limit limits.Requests REQUESTS)
+    else Ok (record draft { section = section.Transactions; current = Some (record { worker = worker; txn = [] }) })
 
 -- `end`: the open transaction becomes the last request of its list
-abbrev pub ended : Draft → Draft
-ended draft = elim draft.current [
+abbrev pub txn_ended : Draft → Draft
+txn_ended draft = elim draft.current [
   | None ↦ draft
   | Some current ↦ record draft { lists = with_last draft.lists (current.worker - 1) current.txn; current = None }
 ]
@@ -80,7 +88,8 @@ ended draft = elim draft.current [
 abbrev pub with_op : Draft → Op → Result Draft Problem
 with_op draft op = elim draft.current [
   | None ↦ Err (Fault Order)
-  | Some current ↦ if length current.txn == 64 then Err (Limit limits.Ops 64) else Ok (record draft { current = Some (record current { txn = current.txn ++ op ∷ [] }) })
+  | Some current ↦ if length current.txn == OPS then Err (Limit limits.Ops OPS)
+      else Ok (record draft { current = Some (record current { txn = current.txn ++ op ∷ [] }) })
 ]
 
 -- the line of an op, without its first word
@@ -92,8 +101,9 @@ op_joined draft word words = do
 -- one more event: an election too many comes first, then an event too many
 abbrev pub scheduled : List Event → Event → Result (List Event) Problem
 scheduled events event =
-    if nat_lt 64 (sum_by elections_of events + elections_of event) then Err (Limit limits.Elections 64)
-    else (if nat_lt 100000 (sum_by count_of events + count_of event) then Err (Limit limits.Events 100000) else Ok (events ++ event ∷ []))
+    if nat_lt ELECTIONS (sum_by elections_of events + elections_of event) then Err (Limit limits.Elections ELECTIONS)
+    else (if nat_lt EVENTS (sum_by count_of events + count_of event) then Err (Limit limits.Events EVENTS)
+    else Ok (events ++ event ∷ []))
 
 -- the line of an event, without its first word
 unfoldable pub event_joined : Draft → EventWord → List (List ℕ) → Result Draft Problem
@@ -102,7 +112,8 @@ event_joined draft word words = do
   events ← scheduled draft.events event
   Ok (record draft { events = events })
 
--- whether a line of a kind can stand here: settings, then tables and rows, then transactions, then the events; ops and `end` inside a transaction, and nothing else there
+-- whether a line of a kind can stand here: settings, then tables and rows, then transactions, then the events;
+-- ops and `end` inside a transaction, and nothing else there
 abbrev pub in_order : Draft → LineKind → Bool
 in_order draft (line.Setting word) = is_settings draft.section
 in_order draft line.Table = is_before_requests draft.section
@@ -117,9 +128,9 @@ in_order draft (line.Event word) = is_events draft.section
 abbrev pub read_kind : Draft → LineKind → List (List ℕ) → Result Draft Problem
 read_kind draft (line.Setting word) (value ∷ []) = setting draft word value
 read_kind draft line.Table (name ∷ size ∷ columns ∷ []) = declared draft name size columns
-read_kind draft line.Row (name ∷ key ∷ cells) = row_of draft name key cells
-read_kind draft line.Txn (worker ∷ []) = begun draft worker
-read_kind draft line.End [] = Ok (ended draft)
+read_kind draft line.Row (name ∷ key ∷ cells) = row_joined draft name key cells
+read_kind draft line.Txn (worker ∷ []) = txn_begun draft worker
+read_kind draft line.End [] = Ok (txn_ended draft)
 read_kind draft (line.Op word) words = op_joined draft word words
 read_kind draft line.Events [] = Ok (record draft { section = section.Events })
 read_kind draft (line.Event word) words = event_joined draft word words
@@ -158,15 +169,18 @@ is_header words = false
 
 -- what is wrong with the first line
 unfoldable pub header_fault : List ℕ → Option Problem
-header_fault line = if is_printable line then (if is_header (words_of line) then None else Some (Fault Header)) else Some (Fault Byte)
+header_fault line =
+    if is_printable line then (if is_header (words_of line) then None else Some (Fault Header))
+    else Some (Fault Byte)
 
 -- nothing is set or declared yet, and the one list is empty
-abbrev pub opening : Draft
-opening = record { section = section.Settings; settings = no_settings; schema = []; rows = map.empty; lists = [] ∷ []; current = None; events = [] }
+abbrev pub opening_draft : Draft
+opening_draft =
+    record { section = section.Settings; settings = no_settings; schema = []; rows = map.empty; lists = [] ∷ []; current = None; events = [] }
 
 -- the lines after the first, unless something is wrong with it
 abbrev pub after_header : Option Problem → List (List ℕ) → Result Draft (ℕ × Problem)
-after_header None lines = read_lines 2 opening lines
+after_header None lines = read_lines 2 opening_draft lines
 after_header (Some problem) lines = Err (1, problem)
 
 -- all lines of a text

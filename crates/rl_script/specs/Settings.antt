@@ -3,7 +3,10 @@ use Rattle.std.specs.Prelude.{ℕ, List, [], ◌∷◌, ◌++◌, length, ◌==�
 use Rattle.std.specs.Str.{bytes_eq}
 use Rattle.rl_events.specs.declared.kind.Kind.{Kind}
 use Rattle.rl_events.specs.declared.kind.Kind.TheVariants.{Duplicate}
-use Rattle.rl_events.specs.Words.{◌>>=◌, number, within}
+use Rattle.rl_events.specs.Words.{number, within}
+use Rattle.rl_base.specs.Results.{◌>>=◌}
+use Rattle.rl_base.specs.declared.limit.TheConstants.{NODES, WORKERS}
+use Rattle.rl_script.specs.declared.script.TheConstants.{MOST_STOPS}
 use Rattle.rl_script.specs.declared.settings.Settings.{Settings}
 use Rattle.rl_script.specs.declared.settings.SettingWord.{SettingWord}
 use Rattle.rl_script.specs.declared.settings.SettingWord.TheVariants as word
@@ -32,28 +35,20 @@ abbrev pub once : {A : Type 0} → Option A → A → Result (Option A) Kind
 once None x = Ok (Some x)
 once (Some y) x = Err Duplicate
 
--- one more stop, of 63
+-- the value of a setting in its range, which was not given before
+abbrev pub given : (low high : ℕ) → Option ℕ → List ℕ → Result (Option ℕ) Kind
+given low high before word = within low high word >>= λ n. once before n
+
+-- one more stop
 abbrev pub one_more : List ℕ → ℕ → Result (List ℕ) Kind
-one_more stops d = if length stops == 63 then Err Duplicate else Ok (stops ++ d ∷ [])
+one_more stops d = if length stops == MOST_STOPS then Err Duplicate else Ok (stops ++ d ∷ [])
 
 -- the settings with one more of them
 unfoldable pub with_setting : Settings → SettingWord → List ℕ → Result Settings Kind
-with_setting s word.Nodes w = do
-  n ← within 1 7 w
-  nodes ← once s.nodes n
-  Ok (record s { nodes = nodes })
-with_setting s word.Workers w = do
-  n ← within 1 16 w
-  workers ← once s.workers n
-  Ok (record s { workers = workers })
-with_setting s word.Batch w = do
-  n ← within 1 64 w
-  batch ← once s.batch n
-  Ok (record s { batch = batch })
-with_setting s word.Loss w = do
-  n ← within 0 999 w
-  loss ← once s.loss n
-  Ok (record s { loss = loss })
+with_setting s word.Nodes w = given 1 NODES s.nodes w >>= λ nodes. Ok (record s { nodes = nodes })
+with_setting s word.Workers w = given 1 WORKERS s.workers w >>= λ workers. Ok (record s { workers = workers })
+with_setting s word.Batch w = given 1 64 s.batch w >>= λ batch. Ok (record s { batch = batch })
+with_setting s word.Loss w = given 0 999 s.loss w >>= λ loss. Ok (record s { loss = loss })
 with_setting s word.Seed w = do
   n ← number w
   seed ← once s.seed n

@@ -1,5 +1,5 @@
 -- What words must be: registers, operands, relations.
-use Rattle.std.specs.Prelude.{ℕ, ◌&&◌, List, length, slice_index, drop, ◌==◌, nat_lt, Option, Some, None, Result, Ok, Err, if◌then◌else◌, codes}
+use Rattle.std.specs.Prelude.{ℕ, List, slice_index, drop, ◌==◌, option_map, ok_or, Result, Ok, Err, if◌then◌else◌, codes}
 use Rattle.std.specs.Str.{bytes_eq}
 use Rattle.rl_txn.specs.declared.op.Operand.{Operand}
 use Rattle.rl_txn.specs.declared.op.Operand.TheVariants.{Reg, Num}
@@ -7,33 +7,19 @@ use Rattle.rl_txn.specs.declared.op.Rel.{Rel}
 use Rattle.rl_txn.specs.declared.op.Rel.TheVariants.{Eq, Ne, Lt, Le, Gt, Ge}
 use Rattle.rl_events.specs.declared.kind.Kind.{Kind}
 use Rattle.rl_events.specs.declared.kind.Kind.TheVariants.{Register, Relation}
-use Rattle.rl_events.specs.Text.{number_of}
-use Rattle.rl_events.specs.Words.{or_fault}
+use Rattle.rl_text.specs.Numbers.{number_of, number_within}
 
--- `r0` to `r15`
-unfoldable pub register_of : List ℕ → Option ℕ
-register_of word =
-    if nat_lt 0 (length word) && (slice_index word 0 == 114)
-    then elim (number_of (drop 1 word)) [
-      | None ↦ None
-      | Some n ↦ if nat_lt n 16 then Some n else None
-    ]
-    else None
-
--- a word that must be a register
-abbrev pub register : List ℕ → Result ℕ Kind
-register word = or_fault Register (register_of word)
-
--- a number as an operand, where there is one
-abbrev pub number_operand : Option ℕ → Result Operand Kind
-number_operand None = Err Register
-number_operand (Some n) = Ok (Num n)
+-- a word that must be a register, `r0` to `r15`
+unfoldable pub register : List ℕ → Result ℕ Kind
+register word =
+    if slice_index word 0 == 114 then number_within 0 15 Register Register (drop 1 word)
+    else Err Register
 
 -- a word that must be a register or a number
 abbrev pub operand : List ℕ → Result Operand Kind
-operand word = elim (register_of word) [
-  | Some r ↦ Ok (Reg r)
-  | None ↦ number_operand (number_of word)
+operand word = elim (register word) [
+  | Ok r ↦ Ok (Reg r)
+  | Err kind ↦ ok_or (option_map Num (number_of word)) Register
 ]
 
 -- a word that must be a relation

@@ -3,35 +3,33 @@
 ghost use Rattle.std.specs.Prelude.{◌≡◌, ◌≤◌, ◌<◌, [], All, MatchResult, None, Ok, IfOk, OnOk, true, false, length, map, replicate, vec_len};
 ghost use Rattle.rl_value.specs.Names.{is_name};
 ghost use Rattle.rl_txn.specs.Fits.{OpFits};
-ghost use Rattle.rl_script.specs.Answers.{as_problem, Fails};
+ghost use Rattle.rl_script.specs.Answers.{Fails};
+ghost use Rattle.rl_script.specs.Problems.{as_problem};
 ghost use Rattle.rl_script.specs.Drafts.{DraftFits};
-ghost use Rattle.rl_script.specs.Fits.{IsNumber};
+ghost use Rattle.rl_text.specs.Numbers.{IsNumber};
 ghost use Rattle.rl_script.specs.Sections.{is_before_requests, is_events, is_settings};
 ghost use Rattle.rl_events.specs.Words.{number};
 ghost use Rattle.rl_script.specs.Operations.{each_word};
-ghost use Rattle.rl_script.specs.Read.{setting, joined, declared, row_of, begun, ended, op_joined, event_joined, in_order, read_kind, read_words, read_line, opening};
+ghost use Rattle.rl_script.specs.Read.{setting, table_joined, declared, row_joined, txn_begun, txn_ended, op_joined, event_joined, in_order, read_kind, read_words, read_line, opening_draft};
 
 use crate::fault::LineError;
 use crate::line::{LineKind, OpWord, line_kind};
 use crate::operation::{read_op, table_for};
-use crate::requests::{MOST_REQUESTS, RequestLists};
+use crate::requests::RequestLists;
 use crate::schedule::Schedule;
 use crate::settings::{SettingWord, Settings};
-use rl_base::limit::{LimitName, RECORDS, TABLES};
+use rl_base::limit::{LimitName, OPS, RECORDS, REQUESTS, TABLES};
 use rl_base::memory::Memory;
 use rl_events::kind::Kind;
 use rl_events::line::{EventWord, read_event};
-use rl_events::text::{printable, words};
 use rl_events::word::{number, within};
+use rl_text::text::{printable, words};
 use rl_txn::op::Txn;
 use rl_value::map::Map;
 use rl_value::name::is_name;
 use rl_value::row::Row;
 use rl_value::schema::{DeclareError, Schema};
 use std::alloc::Global;
-
-/// How many ops a transaction may have.
-const MOST_OPS: u32 = 64;
 
 /// Which part of a script the last line belongs to.
 #[derive(Clone, Copy, Debug, PartialEq, Eq)]
@@ -83,7 +81,7 @@ fn numbers(alloc: Global, words: &[&str]) -> Result<Vec<u64>, LineError>
 impl Draft {
     /// Nothing is declared yet, and each list is empty.
     pub fn new(alloc: Global) -> Result<Draft, Memory>
-        ensures opening { IfOk result (λ draft. draft ≡ opening) }
+        ensures opening { IfOk result (λ draft. draft ≡ opening_draft) }
         ensures fits { IfOk result (λ draft. DraftFits draft) }
     {
         Ok(Draft {
@@ -116,26 +114,22 @@ impl Draft {
     fn join(&mut self, alloc: Global, name: &str, size: u32, columns: u32) -> Result<(), LineError>
         requires name { is_name name.now ≡ true }
         requires some_keys { 1 ≤ size }
-        requires few_keys { size ≤ 65536 }
+        requires few_keys { size ≤ RECORDS }
         requires some_columns { 1 ≤ columns }
         requires few_columns { columns ≤ 4 }
         requires fits { DraftFits self.old }
         requires first { is_before_requests self.old.section ≡ true }
         ensures joined { MatchResult result
-            (λ _. joined self.old name.now size columns ≡ Ok self.new)
-            (λ e. Fails e (joined self.old name.now size columns)) }
+            (λ _. table_joined self.old name.now size columns ≡ Ok self.new)
+            (λ e. Fails e (table_joined self.old name.now size columns)) }
         ensures fits { IfOk result (λ _. DraftFits self.new) }
     {
         self.section = Section::Tables;
         match self.schema.declare(alloc, name, size, columns) {
             Ok(_) => Ok(()),
             Err(DeclareError::DuplicateTable) => Err(Kind::Duplicate.into()),
-            Err(DeclareError::TooManyTables) => {
-                Err(LineError::limit(LimitName::Tables, TABLES))
-            }
-            Err(DeclareError::TooManyRecords) => {
-                Err(LineError::limit(LimitName::Records, RECORDS))
-            }
+            Err(DeclareError::TooManyTables) => Err(LineError::limit(LimitName::Tables, TABLES)),
+            Err(DeclareError::TooManyRecords) => Err(LineError::limit(LimitName::Records, RECORDS)),
             Err(DeclareError::Memory) => Err(LineError::Memory),
         }
     }
@@ -159,19 +153,19 @@ impl Draft {
         if !is_name(name) {
             return Err(Kind::Name.into());
         }
-        let size = within(1, 65536, size)?;
+        let size = within(1, RECORDS, size)?;
         let columns = within(1, 4, columns)?;
         self.join(alloc, name, size, columns)
     }
 
     /// `row NAME KEY C0` up to the last column
-    #[tactic(auto, unfolding(crate::specs::Read::row_of))]
+    #[tactic(auto, unfolding(crate::specs::Read::row_joined))]
     fn row(&mut self, alloc: Global, name: &str, key: &str, cells: &[&str]) -> Result<(), LineError>
         requires fits { DraftFits self.old }
         requires first { is_before_requests self.old.section ≡ true }
         ensures row { MatchResult result
-            (λ _. row_of self.old name.now key.now (map (λ w. w.now) cells.now) ≡ Ok self.new)
-            (λ e. Fails e (row_of self.old name.now key.now (map (λ w. w.now) cells.now))) }
+            (λ _. row_joined self.old name.now key.now (map (λ w. w.now) cells.now) ≡ Ok self.new)
+            (λ e. Fails e (row_joined self.old name.now key.now (map (λ w. w.now) cells.now))) }
         ensures fits { IfOk result (λ _. DraftFits self.new) }
     {
         let t = table_for(&self.schema, name, cells.len())?;
@@ -186,19 +180,19 @@ impl Draft {
     }
 
     /// `txn W`
-    #[tactic(auto, unfolding(crate::specs::Read::begun))]
+    #[tactic(auto, unfolding(crate::specs::Read::txn_begun))]
     fn begin(&mut self, alloc: Global, worker: &str) -> Result<(), LineError>
         requires fits { DraftFits self.old }
         requires rest { self.old.current ≡ None }
         requires no_events { is_events self.old.section ≡ false }
         ensures begun { MatchResult result
-            (λ _. begun self.old worker.now ≡ Ok self.new)
-            (λ e. Fails e (begun self.old worker.now)) }
+            (λ _. txn_begun self.old worker.now ≡ Ok self.new)
+            (λ e. Fails e (txn_begun self.old worker.now)) }
         ensures fits { IfOk result (λ _. DraftFits self.new) }
     {
         let worker = within(1, self.lists.workers() as u32, worker)?;
         if self.lists.are_full() {
-            return Err(LineError::limit(LimitName::Requests, MOST_REQUESTS));
+            return Err(LineError::limit(LimitName::Requests, REQUESTS));
         }
         self.section = Section::Transactions;
         self.current = Some(OpenTxn {
@@ -211,7 +205,7 @@ impl Draft {
     /// `end`
     fn end(&mut self) -> Result<(), Memory>
         requires fits { DraftFits self.old }
-        ensures ended { OnOk result (self.new ≡ ended self.old) }
+        ensures ended { OnOk result (self.new ≡ txn_ended self.old) }
         ensures fits { OnOk result (DraftFits self.new) }
     {
         let Some(OpenTxn { worker, txn }) = self.current.take() else {
@@ -234,8 +228,8 @@ impl Draft {
         let Some(OpenTxn { worker, mut txn }) = self.current.take() else {
             return Err(Kind::Order.into());
         };
-        if txn.len() == MOST_OPS as usize {
-            return Err(LineError::limit(LimitName::Ops, MOST_OPS));
+        if txn.len() == OPS as usize {
+            return Err(LineError::limit(LimitName::Ops, OPS));
         }
         txn.push(op)?;
         self.current = Some(OpenTxn { worker, txn });

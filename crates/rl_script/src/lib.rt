@@ -10,6 +10,4 @@ mod requests;
 mod schedule;
 pub mod script;
 mod settings;
-#[cfg(test)]
-mod tests;
 mod word;

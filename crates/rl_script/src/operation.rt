@@ -1,10 +1,11 @@
 //! The lines of a transaction.
 
-ghost use Rattle.std.specs.Prelude.{◌≡◌, ◌≢◌, ◌<◌, ◌≤◌, List, [], All, MatchResult, Ok, IfOk, length, map};
+ghost use Rattle.std.specs.Prelude.{◌≡◌, ◌≢◌, ◌<◌, ◌≤◌, List, [], ◌∷◌, All, MatchResult, Ok, IfOk, length, map};
 ghost use Rattle.rl_value.specs.Tables.{Table, columns_of};
 ghost use Rattle.rl_txn.specs.Fits.{OperandFits, OpFits};
-ghost use Rattle.rl_script.specs.Operations.{known, table_for, each_word, set_of, terms_of, add_of, sub_of, mul_of, get_of, has_of, put_of, del_of, scan_of, need_of, skip_of, out_of, read_op};
-ghost use Rattle.rl_script.specs.Answers.{as_problem, Fails};
+ghost use Rattle.rl_script.specs.Operations.{known_table, table_for, each_word, set_of, terms_of, get_of, has_of, put_of, del_of, scan_of, need_of, skip_of, read_op};
+ghost use Rattle.rl_script.specs.Answers.{Fails};
+ghost use Rattle.rl_script.specs.Problems.{as_problem};
 ghost use Rattle.rl_script.specs.Words.{operand};
 
 use crate::fault::LineError;
@@ -17,14 +18,11 @@ use rl_value::schema::Schema;
 use std::alloc::Global;
 
 /// The number of a table that is declared.
-fn known(schema: &Schema, name: &str) -> Result<u32, Kind>
-    ensures known { result ≡ known schema.now name.now }
+fn known_table(schema: &Schema, name: &str) -> Result<u32, Kind>
+    ensures known { result ≡ known_table schema.now name.now }
     ensures there { IfOk result (λ t. t < length schema.now) }
 {
-    match schema.find(name) {
-        Some(t) => Ok(t),
-        None => Err(Kind::UnknownTable),
-    }
+    schema.find(name).ok_or(Kind::UnknownTable)
 }
 
 /// The table of a line that gives a whole row of some columns.
@@ -86,40 +84,13 @@ fn terms(d: &str, a: &str, b: &str) -> Result<(u32, Operand, Operand), Kind>
     Ok((d, a, b))
 }
 
-/// `add D A B`
-fn add(d: &str, a: &str, b: &str) -> Result<Op, Kind>
-    ensures op { result ≡ add_of d.now a.now b.now }
-    ensures fits { (tables : List Table) → IfOk result (λ op. OpFits tables op) }
-{
-    let (d, a, b) = terms(d, a, b)?;
-    Ok(Op::Add { d, a, b })
-}
-
-/// `sub D A B`
-fn sub(d: &str, a: &str, b: &str) -> Result<Op, Kind>
-    ensures op { result ≡ sub_of d.now a.now b.now }
-    ensures fits { (tables : List Table) → IfOk result (λ op. OpFits tables op) }
-{
-    let (d, a, b) = terms(d, a, b)?;
-    Ok(Op::Sub { d, a, b })
-}
-
-/// `mul D A B`
-fn mul(d: &str, a: &str, b: &str) -> Result<Op, Kind>
-    ensures op { result ≡ mul_of d.now a.now b.now }
-    ensures fits { (tables : List Table) → IfOk result (λ op. OpFits tables op) }
-{
-    let (d, a, b) = terms(d, a, b)?;
-    Ok(Op::Mul { d, a, b })
-}
-
 /// `get T K C D`
 #[tactic(auto, unfolding(crate::specs::Operations::get_of))]
 fn get(schema: &Schema, table: &str, key: &str, column: &str, d: &str) -> Result<Op, Kind>
     ensures op { result ≡ get_of schema.now table.now key.now column.now d.now }
     ensures fits { IfOk result (λ op. OpFits schema.now op) }
 {
-    let table = known(schema, table)?;
+    let table = known_table(schema, table)?;
     let key = operand(key)?;
     let column = within(0, schema.columns(table) - 1, column)?;
     let d = register(d)?;
@@ -137,7 +108,7 @@ fn has(schema: &Schema, table: &str, key: &str, d: &str) -> Result<Op, Kind>
     ensures op { result ≡ has_of schema.now table.now key.now d.now }
     ensures fits { IfOk result (λ op. OpFits schema.now op) }
 {
-    let table = known(schema, table)?;
+    let table = known_table(schema, table)?;
     let key = operand(key)?;
     let d = register(d)?;
     Ok(Op::Has { table, key, d })
@@ -169,7 +140,7 @@ fn del(schema: &Schema, table: &str, key: &str) -> Result<Op, Kind>
     ensures op { result ≡ del_of schema.now table.now key.now }
     ensures fits { IfOk result (λ op. OpFits schema.now op) }
 {
-    let table = known(schema, table)?;
+    let table = known_table(schema, table)?;
     let key = operand(key)?;
     Ok(Op::Del { table, key })
 }
@@ -187,7 +158,7 @@ fn scan(
     ensures op { result ≡ scan_of schema.now table.now key.now count.now column.now d.now }
     ensures fits { IfOk result (λ op. OpFits schema.now op) }
 {
-    let table = known(schema, table)?;
+    let table = known_table(schema, table)?;
     let key = operand(key)?;
     let count = within(1, 256, count)?;
     let column = within(0, schema.columns(table) - 1, column)?;
@@ -226,16 +197,6 @@ fn skip(a: &str, rel: &str, b: &str, count: &str) -> Result<Op, Kind>
     Ok(Op::Skip { a, rel, b, count })
 }
 
-/// `out A`
-#[tactic(auto, unfolding(crate::specs::Operations::out_of))]
-fn out(a: &str) -> Result<Op, Kind>
-    ensures op { result ≡ out_of a.now }
-    ensures fits { (tables : List Table) → IfOk result (λ op. OpFits tables op) }
-{
-    let a = operand(a)?;
-    Ok(Op::Out { a })
-}
-
 /// The op of the line that begins with an op's word. `words` are those after it.
 pub fn read_op(
     alloc: Global,
@@ -263,51 +224,84 @@ fn small_op(schema: &Schema, word: OpWord, words: &[&str]) -> Result<Op, Kind>
     ensures op { result ≡ read_op schema.now word (map (λ w. w.now) words.now) }
     ensures fits { IfOk result (λ op. OpFits schema.now op) }
 {
+    match words {
+        [a] => op_of_one(schema, word, a),
+        [a, b] => op_of_two(schema, word, a, b),
+        [a, b, c] => op_of_three(schema, word, a, b, c),
+        [a, b, c, d] => op_of_four(schema, word, a, b, c, d),
+        [table, key, count, column, d] if word == OpWord::Scan => {
+            scan(schema, table, key, count, column, d)
+        }
+        _ => Err(Kind::Count),
+    }
+}
+
+/// The op of an op's word and one more.
+fn op_of_one(schema: &Schema, word: OpWord, a: &str) -> Result<Op, Kind>
+    requires { word ≢ OpWord.Put }
+    ensures op { result ≡ read_op schema.now word (a.now ∷ []) }
+    ensures fits { IfOk result (λ op. OpFits schema.now op) }
+{
     match word {
-        OpWord::Set => match words {
-            [d, a] => set(d, a),
-            _ => Err(Kind::Count),
-        },
-        OpWord::Add => match words {
-            [d, a, b] => add(d, a, b),
-            _ => Err(Kind::Count),
-        },
-        OpWord::Sub => match words {
-            [d, a, b] => sub(d, a, b),
-            _ => Err(Kind::Count),
-        },
-        OpWord::Mul => match words {
-            [d, a, b] => mul(d, a, b),
-            _ => Err(Kind::Count),
-        },
-        OpWord::Get => match words {
-            [table, key, column, d] => get(schema, table, key, column, d),
-            _ => Err(Kind::Count),
-        },
-        OpWord::Has => match words {
-            [table, key, d] => has(schema, table, key, d),
-            _ => Err(Kind::Count),
-        },
-        OpWord::Del => match words {
-            [table, key] => del(schema, table, key),
-            _ => Err(Kind::Count),
-        },
-        OpWord::Scan => match words {
-            [table, key, count, column, d] => scan(schema, table, key, count, column, d),
-            _ => Err(Kind::Count),
-        },
-        OpWord::Need => match words {
-            [a, rel, b] => need(a, rel, b),
-            _ => Err(Kind::Count),
-        },
-        OpWord::Skip => match words {
-            [a, rel, b, count] => skip(a, rel, b, count),
-            _ => Err(Kind::Count),
-        },
-        OpWord::Out => match words {
-            [a] => out(a),
-            _ => Err(Kind::Count),
-        },
-        OpWord::Put => Err(Kind::Count),
+        OpWord::Out => Ok(Op::Out { a: operand(a)? }),
+        _ => Err(Kind::Count),
+    }
+}
+
+/// The op of an op's word and two more.
+fn op_of_two(schema: &Schema, word: OpWord, a: &str, b: &str) -> Result<Op, Kind>
+    requires { word ≢ OpWord.Put }
+    ensures op { result ≡ read_op schema.now word (a.now ∷ b.now ∷ []) }
+    ensures fits { IfOk result (λ op. OpFits schema.now op) }
+{
+    match word {
+        OpWord::Set => set(a, b),
+        OpWord::Del => del(schema, a, b),
+        _ => Err(Kind::Count),
+    }
+}
+
+/// The op of an op's word and three more.
+fn op_of_three(schema: &Schema, word: OpWord, a: &str, b: &str, c: &str) -> Result<Op, Kind>
+    requires { word ≢ OpWord.Put }
+    ensures op { result ≡ read_op schema.now word (a.now ∷ b.now ∷ c.now ∷ []) }
+    ensures fits { IfOk result (λ op. OpFits schema.now op) }
+{
+    match word {
+        OpWord::Add => {
+            let (d, a, b) = terms(a, b, c)?;
+            Ok(Op::Add { d, a, b })
+        }
+        OpWord::Sub => {
+            let (d, a, b) = terms(a, b, c)?;
+            Ok(Op::Sub { d, a, b })
+        }
+        OpWord::Mul => {
+            let (d, a, b) = terms(a, b, c)?;
+            Ok(Op::Mul { d, a, b })
+        }
+        OpWord::Has => has(schema, a, b, c),
+        OpWord::Need => need(a, b, c),
+        _ => Err(Kind::Count),
+    }
+}
+
+/// The op of an op's word and four more.
+fn op_of_four(
+    schema: &Schema,
+    word: OpWord,
+    a: &str,
+    b: &str,
+    c: &str,
+    d: &str,
+) -> Result<Op, Kind>
+    requires { word ≢ OpWord.Put }
+    ensures op { result ≡ read_op schema.now word (a.now ∷ b.now ∷ c.now ∷ d.now ∷ []) }
+    ensures fits { IfOk result (λ op. OpFits schema.now op) }
+{
+    match word {
+        OpWord::Get => get(schema, a, b, c, d),
+        OpWord::Skip => skip(a, b, c, d),
+        _ => Err(Kind::Count),
     }
 }

@@ -7,10 +7,10 @@ ghost use Rattle.std.specs.String.{string_bytes};
 ghost use Rattle.std.specs.Fmt.{decimal};
 ghost use Rattle.rl_value.specs.Tables.{columns_of, name_of, size_of};
 ghost use Rattle.rl_txn.specs.Fits.{OpFits, TxnFits, ListsFit};
-ghost use Rattle.rl_events.specs.Printed.{line_of};
+ghost use Rattle.rl_text.specs.Printed.{line_of, text_of};
 ghost use Rattle.rl_script.specs.Fits.{ScriptFits};
 ghost use Rattle.rl_script.specs.Read.{read};
-ghost use Rattle.rl_script.specs.Printed.{event_lines, list_lines, op_words, operand_word, printed, register_word, relation_word, row_lines, rows_of_table, setting_lines, stop_line, table_line, text_of, txn_lines};
+ghost use Rattle.rl_script.specs.Printed.{event_lines, list_lines, op_words, operand_word, printed, register_word, relation_word, row_lines, rows_of_table, setting_lines, stop_line, table_line, txn_lines};
 
 use crate::script::Script;
 use rl_base::list::Bytes;

@@ -1,15 +1,13 @@
 //! The requests of a script so far.
 
-ghost use Rattle.std.specs.Prelude.{◌≡◌, ◌-◌, ◌<◌, ◌≤◌, ◌==◌, [], IfOk, OnOk, length, replicate, sum_by};
+ghost use Rattle.std.specs.Prelude.{◌≡◌, ◌-◌, ◌<◌, ◌≤◌, ◌==◌, [], IfOk, OnOk, OnErr, length, replicate, sum_by};
 ghost use Rattle.rl_base.specs.Lists.{with_last};
 
+use rl_base::limit::REQUESTS;
 use rl_base::memory::Memory;
 use rl_txn::op::{Lists, Requests, Txn};
 use std::alloc::Global;
 use std::marker::Model;
-
-/// How many requests the lists may have together.
-pub const MOST_REQUESTS: u32 = 8192;
 
 /// A list of requests for each worker, with at most 8,192 together. Contracts see the lists.
 #[derive(Drop)]
@@ -20,13 +18,14 @@ pub struct RequestLists {
 
 impl Model for RequestLists {
     ghost use Rattle.std.specs.Prelude.{◌≡◌, ◌≤◌, List, length, sum_by};
+    ghost use Rattle.rl_base.specs.declared.limit.TheConstants.{REQUESTS};
     ghost use Rattle.rl_txn.specs.declared.op.Op.{Op};
 
     ghost Value = { List (List (List Op)) };
 
     ghost view = { λ r. r.lists };
 
-    ghost invariant = { λ r. (r.count ≡ sum_by length r.lists) × (r.count ≤ 8192) };
+    ghost invariant = { λ r. (r.count ≡ sum_by length r.lists) × (r.count ≤ REQUESTS) };
 }
 
 impl RequestLists {
@@ -49,17 +48,18 @@ impl RequestLists {
 
     /// Whether no request can join them.
     pub fn are_full(&self) -> bool
-        ensures { result ≡ (sum_by length self.now == 8192) }
+        ensures { result ≡ (sum_by length self.now == REQUESTS) }
     {
-        self.count == MOST_REQUESTS
+        self.count == REQUESTS
     }
 
     /// A request becomes the last of a worker's. After `Memory` they are unchanged.
     pub fn push(&mut self, worker: u32, txn: Txn) -> Result<(), Memory>
         requires some { 1 ≤ worker }
         requires there { worker ≤ length self.old }
-        requires room { sum_by length self.old < 8192 }
-        ensures { OnOk result (self.new ≡ with_last self.old (worker - 1) txn) }
+        requires room { sum_by length self.old < REQUESTS }
+        ensures ok { OnOk result (self.new ≡ with_last self.old (worker - 1) txn) }
+        ensures err { OnErr result (self.new ≡ self.old) }
     {
         self.lists.push_at(worker as usize - 1, txn)?;
         self.count += 1;

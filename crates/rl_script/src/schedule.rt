@@ -6,13 +6,10 @@ ghost use Rattle.rl_script.specs.Answers.{Fails};
 ghost use Rattle.rl_script.specs.Read.{scheduled};
 
 use crate::fault::LineError;
-use rl_base::limit::LimitName;
-use rl_events::event::{Event, Events, MOST_EVENTS};
+use rl_base::limit::{ELECTIONS, EVENTS, LimitName};
+use rl_events::event::{Event, Events};
 use std::alloc::Global;
 use std::marker::Model;
-
-/// How many elections a script may have.
-const MOST_ELECTIONS: u32 = 64;
 
 /// The events so far, which keep the limits of a script. Contracts see their list.
 #[derive(Drop)]
@@ -24,6 +21,7 @@ pub struct Schedule {
 
 impl Model for Schedule {
     ghost use Rattle.std.specs.Prelude.{◌≡◌, ◌≤◌, List, sum_by};
+    ghost use Rattle.rl_base.specs.declared.limit.TheConstants.{ELECTIONS, EVENTS};
     ghost use Rattle.rl_events.specs.Fits.{count_of, elections_of};
     ghost use Rattle.rl_events.specs.declared.event.Event.{Event};
 
@@ -31,7 +29,8 @@ impl Model for Schedule {
 
     ghost view = { λ s. s.events };
 
-    ghost invariant = { λ s. (s.elections ≡ sum_by elections_of s.events) × (s.elections ≤ 64) × (s.counted ≡ sum_by count_of s.events) × (s.counted ≤ 100000) };
+    ghost invariant = { λ s. (s.elections ≡ sum_by elections_of s.events) × (s.elections ≤ ELECTIONS)
+        × (s.counted ≡ sum_by count_of s.events) × (s.counted ≤ EVENTS) };
 }
 
 impl Schedule {
@@ -53,14 +52,14 @@ impl Schedule {
             (λ _. scheduled self.old event ≡ Ok self.new)
             (λ e. Fails e (scheduled self.old event)) }
         ensures last { IfOk result (λ _. self.new ≡ self.old ++ event ∷ []) }
-        ensures counted { IfOk result (λ _. sum_by count_of self.new ≤ 100000) }
-        ensures elections { IfOk result (λ _. sum_by elections_of self.new ≤ 64) }
+        ensures counted { IfOk result (λ _. sum_by count_of self.new ≤ EVENTS) }
+        ensures elections { IfOk result (λ _. sum_by elections_of self.new ≤ ELECTIONS) }
     {
-        if event.elections() > MOST_ELECTIONS - self.elections {
-            return Err(LineError::limit(LimitName::Elections, MOST_ELECTIONS));
+        if event.elections() > ELECTIONS - self.elections {
+            return Err(LineError::limit(LimitName::Elections, ELECTIONS));
         }
-        if event.count() > MOST_EVENTS - self.counted {
-            return Err(LineError::limit(LimitName::Events, MOST_EVENTS));
+        if event.count() > EVENTS - self.counted {
+            return Err(LineError::limit(LimitName::Events, EVENTS));
         }
         self.events.push(event)?;
         self.elections += event.elections();
@@ -71,8 +70,8 @@ impl Schedule {
     /// The events, which keep the limits.
     pub fn into_events(self) -> Events
         ensures events { result ≡ self }
-        ensures counted { sum_by count_of result ≤ 100000 }
-        ensures elections { sum_by elections_of result ≤ 64 }
+        ensures counted { sum_by count_of result ≤ EVENTS }
+        ensures elections { sum_by elections_of result ≤ ELECTIONS }
     {
         self.events
     }

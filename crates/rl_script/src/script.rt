@@ -1,8 +1,9 @@
 //! A script, and how it is read.
 
 ghost use Rattle.std.specs.Prelude.{◌≡◌, ◌<◌, ◌-◌, ◌^◌, None, Ok, IfOk, MatchResult, length, map};
-ghost use Rattle.rl_events.specs.Text.{lines_of};
-ghost use Rattle.rl_script.specs.Answers.{Finds, FailsAt};
+ghost use Rattle.rl_text.specs.Text.{lines_of};
+ghost use Rattle.rl_script.specs.Answers.{Finds};
+ghost use Rattle.rl_script.specs.Problems.{FailsAt};
 ghost use Rattle.rl_script.specs.Drafts.{DraftFits};
 ghost use Rattle.rl_script.specs.Fits.{ScriptFits};
 ghost use Rattle.rl_script.specs.Read.{is_header, header_fault, read_text, read, script_of};
@@ -12,7 +13,7 @@ use crate::fault::{LineError, ParseError};
 use rl_base::list::Seq;
 use rl_events::event::Events;
 use rl_events::kind::Kind;
-use rl_events::text::{first_line, printable, words};
+use rl_text::text::{first_line, printable, words};
 use rl_txn::op::Lists;
 use rl_value::map::Map;
 use rl_value::schema::Schema;
@@ -20,6 +21,9 @@ use std::alloc::Global;
 
 /// One number D for each stop: the leader of that epoch stops behind the seq D + 1.
 pub type Stops = Seq<u64>;
+
+/// How many stops a script may have.
+pub const MOST_STOPS: usize = 63;
 
 /// A script: its tables with their opening rows, its settings, the requests of each worker, and
 /// the events.
@@ -52,18 +56,16 @@ pub struct Script {
 /// `Fault` and `Limit` name the first line with which something is wrong, and what: of a line that
 /// breaks rules the first one, in the order `Byte`, `Header`, `Word`, `Order`, `Count`, then each
 /// word from left to right, then `Duplicate`; and where it breaks none, the limit that it passes:
-/// `Tables` comes before `Records`, and `Elections` before `Events`. Without memory it is `Memory`. A text that ends inside a transaction is `Unended` at the line behind its last.
-/// A text has fewer than 2^32 - 1 bytes.
+/// `Tables` comes before `Records`, and `Elections` before `Events`. Without memory it is `Memory`.
+/// A text that ends inside a transaction is `Unended` at the line behind its last. A text has fewer
+/// than 2^32 - 1 bytes.
 #[tactic(auto, unfolding(crate::specs::Read::read))]
 pub fn parse(alloc: Global, text: &[u8]) -> Result<Script, ParseError>
     requires { length text.now < 2 ^ 32 - 1 }
     ensures script { MatchResult result (λ script. read text.now ≡ Ok script) (λ e. FailsAt e (read text.now)) }
     ensures fits { IfOk result (λ script. ScriptFits script) }
 {
-    match read_lines(alloc, text) {
-        Ok(draft) => Ok(draft.into_script()),
-        Err(e) => Err(e),
-    }
+    Ok(read_lines(alloc, text)?.into_script())
 }
 
 /// What the lines of a text say.

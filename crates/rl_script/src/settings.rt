@@ -1,18 +1,19 @@
 //! The settings of a script.
 
-ghost use Rattle.std.specs.Prelude.{◌≡◌, ◌≤◌, [], MatchResult, Some, Ok, IfOk};
-ghost use Rattle.rl_script.specs.Answers.{as_problem, Fails};
+ghost use Rattle.std.specs.Prelude.{◌≡◌, [], MatchResult, Some, Ok, IfOk};
+ghost use Rattle.std.specs.Option.{IsSomeAnd};
+ghost use Rattle.rl_text.specs.Numbers.{IsWithin};
+ghost use Rattle.rl_script.specs.Answers.{Fails};
+ghost use Rattle.rl_script.specs.Problems.{as_problem};
 ghost use Rattle.rl_script.specs.Drafts.{SettingsFit};
-ghost use Rattle.rl_script.specs.Settings.{setting_word, no_settings, nodes_of, workers_of, once, one_more, with_setting};
+ghost use Rattle.rl_script.specs.Settings.{setting_word, no_settings, nodes_of, workers_of, once, given, one_more, with_setting};
 
 use crate::fault::LineError;
-use crate::script::Stops;
+use crate::script::{MOST_STOPS, Stops};
+use rl_base::limit::{NODES, WORKERS};
 use rl_events::kind::Kind;
 use rl_events::word::{number, within};
 use std::alloc::Global;
-
-/// How many stops a script may have.
-const MOST_STOPS: usize = 63;
 
 /// Which setting a line is.
 #[derive(Clone, Copy, Debug, PartialEq, Eq)]
@@ -60,6 +61,14 @@ fn once<T: Drop>(before: Option<T>, value: T) -> Result<Option<T>, Kind>
         None => Ok(Some(value)),
         Some(_) => Err(Kind::Duplicate),
     }
+}
+
+/// The value of a setting in its range, which was not given before.
+fn given(low: u32, high: u32, before: Option<u32>, word: &str) -> Result<Option<u32>, Kind>
+    ensures given { result ≡ given low high before word.now }
+    ensures within { IfOk result (λ after. IsSomeAnd after (λ n. IsWithin low high n)) }
+{
+    once(before, within(low, high, word)?)
 }
 
 /// One more stop joins the others.
@@ -115,10 +124,10 @@ impl Settings {
         ensures fits { IfOk result (λ _. SettingsFit self.new) }
     {
         match word {
-            SettingWord::Nodes => self.nodes = once(self.nodes, within(1, 7, value)?)?,
-            SettingWord::Workers => self.workers = once(self.workers, within(1, 16, value)?)?,
-            SettingWord::Batch => self.batch = once(self.batch, within(1, 64, value)?)?,
-            SettingWord::Loss => self.loss = once(self.loss, within(0, 999, value)?)?,
+            SettingWord::Nodes => self.nodes = given(1, NODES, self.nodes, value)?,
+            SettingWord::Workers => self.workers = given(1, WORKERS, self.workers, value)?,
+            SettingWord::Batch => self.batch = given(1, 64, self.batch, value)?,
+            SettingWord::Loss => self.loss = given(0, 999, self.loss, value)?,
             SettingWord::Seed => self.seed = once(self.seed, number(value)?)?,
             SettingWord::Stop => push_stop(&mut self.stops, within(1, 1000000, value)?)?,
         }

@@ -1,39 +1,26 @@
 //! Words that are registers, operands and relations.
 
-ghost use Rattle.std.specs.Prelude.{◌≡◌, ◌<◌, IfOk, IfSome};
+ghost use Rattle.std.specs.Prelude.{◌≡◌, ◌<◌, IfOk};
 ghost use Rattle.rl_txn.specs.Fits.{OperandFits};
-ghost use Rattle.rl_script.specs.Words.{register_of, register, operand, relation};
+ghost use Rattle.rl_script.specs.Words.{register, operand, relation};
 
 use rl_base::slices::rest_from;
 use rl_events::kind::Kind;
-use rl_events::word::number_of;
+use rl_text::number::{number_of, number_within};
 use rl_txn::op::{Operand, Rel};
 
-/// The register that a word names, if it names one.
-#[tactic(auto, unfolding(crate::specs::Words::register_of))]
-fn register_of(word: &str) -> Option<u32>
-    ensures register { result ≡ register_of word.now }
-    ensures fits { IfSome result (λ r. r < 16) }
-{
-    let word = word.as_bytes();
-    if word.is_empty() || word[0] != b'r' {
-        return None;
-    }
-    match number_of(rest_from(word, 1)) {
-        Some(n) if n < 16 => Some(n as u32),
-        _ => None,
-    }
-}
-
 /// A word that must be a register.
+#[tactic(auto, unfolding(crate::specs::Words::register))]
 pub fn register(word: &str) -> Result<u32, Kind>
     ensures register { result ≡ register word.now }
     ensures fits { IfOk result (λ r. r < 16) }
 {
-    match register_of(word) {
-        Some(r) => Ok(r),
-        None => Err(Kind::Register),
+    let word = word.as_bytes();
+    if word.is_empty() || word[0] != b'r' {
+        return Err(Kind::Register);
     }
+    let r = number_within(0, 15, Kind::Register, Kind::Register, rest_from(word, 1))?;
+    Ok(r as u32)
 }
 
 /// A word that must be a register or a number.
@@ -41,7 +28,7 @@ pub fn operand(word: &str) -> Result<Operand, Kind>
     ensures operand { result ≡ operand word.now }
     ensures fits { IfOk result (λ a. OperandFits a) }
 {
-    if let Some(r) = register_of(word) {
+    if let Ok(r) = register(word) {
         return Ok(Operand::Reg(r));
     }
     match number_of(word.as_bytes()) {

@@ -47,12 +47,12 @@ fn value(digits: &[u8]) -> Option<u64>
 /// The number from low to high that a word is; `none` where it is no number, and `out` where it is
 /// another one.
 #[tactic(auto, unfolding(crate::specs::Numbers::number_within))]
-pub fn number_within<E: Copy>(low: u64, high: u64, none: E, out: E, word: &str) -> Result<u64, E>
+pub fn number_within<E: Copy>(low: u64, high: u64, none: E, out: E, word: &[u8]) -> Result<u64, E>
     ensures within { result ≡ number_within low high none out word.now }
     ensures low { IfOk result (λ n. low ≤ n) }
     ensures high { IfOk result (λ n. n ≤ high) }
 {
-    match number_of(word.as_bytes()) {
+    match number_of(word) {
         None => Err(none),
         Some(n) if n < low || n > high => Err(out),
         Some(n) => Ok(n),

@@ -53,15 +53,16 @@ table_at entries t e at all =
       | inr (past, none) ↦ cc
     ]
 
--- one more table leaves the number of one that was found before, and is found itself where its name is new
-found_before : (p : Table → Bool) (i k : ℕ) (tables : List Table) (x : Table) → position_from p i tables ≡ Some k → position_from p i (tables ++ x ∷ []) ≡ Some k
-found_before p i k [] x h = cc
-found_before p i k (t ∷ tables) x h =
-    elim (p t) as (λ b. cond b (Some i) (position_from p (i + 1) tables) ≡ Some k → cond b (Some i) (position_from p (i + 1) (tables ++ x ∷ [])) ≡ Some k) [
-      | true ↦ λ h. h
-      | false ↦ λ h. found_before p (i + 1) k tables x h
-    ] h
+-- the place at which a list has something, in a longer list
+pub found_earlier : (p : Table → Bool) (i k : ℕ) (tables more : List Table) → position_from p i tables ≡ Some k → (position_from p i (tables ++ more) ≡ Some k) × (k < i + length tables)
+found_earlier p i k [] more h = absurd (let e : None ≡ Some k = h in cc)
+found_earlier p i k (t ∷ tables) more h = go (p t) h (λ later. found_earlier p (i + 1) k tables more later)
+  where
+    go : (b : Bool) → cond b (Some i) (position_from p (i + 1) tables) ≡ Some k → (position_from p (i + 1) tables ≡ Some k → (position_from p (i + 1) (tables ++ more) ≡ Some k) × (k < i + 1 + length tables)) → (cond b (Some i) (position_from p (i + 1) (tables ++ more)) ≡ Some k) × (k < i + suc (length tables))
+    go true here later = (here, let same : i ≡ k = cc in omega arith)
+    go false here later = ((later here).0, omega (arith, (later here).1))
 
+-- one more table is found where its name is new
 found_last : (p : Table → Bool) (i : ℕ) (tables : List Table) (x : Table) → position_from p i tables ≡ None → p x ≡ true → position_from p i (tables ++ x ∷ []) ≡ Some (i + length tables)
 found_last p i [] x h is = ap (λ b. cond b (Some i) None) is ∙ ap Some (omega arith)
 found_last p i (t ∷ tables) x h is =
@@ -78,10 +79,10 @@ names_push : (tables : List Table) (x : Table) → HaveNamesOfTheirOwn tables �
 names_push tables x own new t within = elim (cases_lt t (length tables)) [
   | inl before ↦
       let name : name_of (tables ++ x ∷ []) t ≡ name_of tables t = ap (λ o. option_map_or (λ table. table.name) o []) (get_before tables x t before) in
-      rw name (found_before (λ t'. bytes_eq (name_of tables t) t'.name) 0 t tables x (own t before))
+      rw name (found_earlier (λ t'. bytes_eq (name_of tables t) t'.name) 0 t tables (x ∷ []) (own t before)).0
   | inr not_before ↦
       let last : t ≡ length tables = omega (arith, length-append tables (x ∷ [])) in
-      let name : name_of (tables ++ x ∷ []) t ≡ x.name = ap (λ n. name_of (tables ++ x ∷ []) n) last ∙ ap (λ o. option_map_or (λ table. table.name) o []) (get_last tables x) in
+      let name : name_of (tables ++ x ∷ []) t ≡ x.name = ap (λ n. name_of (tables ++ x ∷ []) n) last ∙ ap (λ o. option_map_or (λ table. table.name) o []) (get_last tables x []) in
       rw (name, last) (found_last (λ t'. bytes_eq x.name t'.name) 0 tables x new (same_bytes x.name) ∙ ap Some (omega arith))
 ]
 

@@ -3,7 +3,7 @@ use Rattle.std.specs.Fmt.{decimal}
 use Rattle.std.specs.List.{flat_map}
 use Rattle.std.specs.String.{string_bytes}
 use Rattle.std.proofs.lemmas.Result.{on_ok_weaker}
-use Rattle.rl_script.proofs.PrintLemmas.{line_more}
+use Rattle.rl_text.proofs.Texts.{line_more}
 use Rattle.rl_script.proofs.printed.push_row_words.Goals as goal
 
 pub returns : goal.returns

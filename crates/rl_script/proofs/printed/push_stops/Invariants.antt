@@ -1,7 +1,7 @@
 use Rattle.std.proofs.Common.{◌≡◌, [], ◌∷◌, ◌++◌, take}
 use Rattle.std.specs.String.{string_bytes}
 use Rattle.std.specs.List.{flat_map}
-use Rattle.rl_events.specs.Printed.{line_of}
+use Rattle.rl_text.specs.Printed.{line_of}
 use Rattle.rl_script.specs.Printed.{stop_line}
 use Rattle.rl_script.proofs.printed.push_stops.Given as goal
 

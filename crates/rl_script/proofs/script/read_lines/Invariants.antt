@@ -1,5 +1,5 @@
 use Rattle.std.proofs.Common.{◌≡◌, ◌≤◌, ◌+◌, length}
-use Rattle.rl_events.specs.Text.{lines_of}
+use Rattle.rl_text.specs.Text.{lines_of}
 use Rattle.rl_script.specs.Drafts.{DraftFits}
 use Rattle.rl_script.specs.Read.{read_text, read_lines}
 use Rattle.rl_script.proofs.script.read_lines.Given as goal
