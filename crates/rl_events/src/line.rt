@@ -169,13 +169,7 @@ fn event_of_one(word: EventWord, n: &str, nodes: u32, workers: u32) -> Result<Ev
 }
 
 /// The event of a word and two more.
-fn event_of_two(
-    word: EventWord,
-    a: &str,
-    b: &str,
-    nodes: u32,
-    workers: u32,
-) -> Result<Event, Kind>
+fn event_of_two(word: EventWord, a: &str, b: &str, nodes: u32, workers: u32) -> Result<Event, Kind>
     ensures event { result ≡ read_event nodes workers word (a.now ∷ b.now ∷ []) }
     ensures fits { IfOk result (λ event. EventFits nodes workers event) }
 {

@@ -68,14 +68,14 @@ row_joined draft name key cells = do
   key ← as_problem (within 0 (size_of draft.schema t - 1) key)
   cells ← as_problem (each_word number cells)
   if is_some (map.get draft.rows (t, key)) then Err (Fault Duplicate)
-    else Ok (record draft { section = section.Tables; rows = map.insert draft.rows (t, key) cells })
+      else Ok (record draft { section = section.Tables; rows = map.insert draft.rows (t, key) cells })
 
 -- `txn W`: the next request of one of the lists
 unfoldable pub txn_begun : Draft → List ℕ → Result Draft Problem
 txn_begun draft worker = do
   worker ← as_problem (within 1 (length draft.lists) worker)
   if sum_by length draft.lists == REQUESTS then Err (Limit limits.Requests REQUESTS)
-    else Ok (record draft { section = section.Transactions; current = Some (record { worker = worker; txn = [] }) })
+      else Ok (record draft { section = section.Transactions; current = Some (record { worker = worker; txn = [] }) })
 
 -- `end`: the open transaction becomes the last request of its list
 abbrev pub txn_ended : Draft → Draft

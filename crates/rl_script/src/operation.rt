@@ -287,14 +287,7 @@ fn op_of_three(schema: &Schema, word: OpWord, a: &str, b: &str, c: &str) -> Resu
 }
 
 /// The op of an op's word and four more.
-fn op_of_four(
-    schema: &Schema,
-    word: OpWord,
-    a: &str,
-    b: &str,
-    c: &str,
-    d: &str,
-) -> Result<Op, Kind>
+fn op_of_four(schema: &Schema, word: OpWord, a: &str, b: &str, c: &str, d: &str) -> Result<Op, Kind>
     requires { word ≢ OpWord.Put }
     ensures op { result ≡ read_op schema.now word (a.now ∷ b.now ∷ c.now ∷ d.now ∷ []) }
     ensures fits { IfOk result (λ op. OpFits schema.now op) }
