@@ -1,7 +1,8 @@
 #!/usr/bin/env bash
-# Runs every example by `serial` and by `steps`. A script of examples/ ends with status 0. A script of
-# examples/faults/ prints the line of the file .out beside it, with the status of a fault or of a limit.
-# A line for each difference; status 1 where there is one.
+# Runs the examples and compares what is printed. A script examples/NAME.rolis ends with status 0 by `serial` and by
+# `steps`, and NAME.COMMAND.out beside it is what the command prints. A script of examples/faults/ prints by both the
+# line of the file .out beside it, with the status of a fault or of a limit. Words that are no command print
+# examples/usage.out. A line for each difference; status 1 where there is one.
 set -u
 top=$(cd "$(dirname "$0")/.." && pwd)
 binary=$top/crates/rl_cli/out/rl_cli
@@ -14,15 +15,18 @@ if [ ! -x "$binary" ]; then
   exit 1
 fi
 
-# Runs a script by a command, and compares its status, and its output with a file where one is named.
+# check STATUS OUT SCRIPT WORD..: runs the program by the words on a script, and compares its status, and its output
+# with a file where there is one.
 check() {
-  local script=$1 command=$2 wanted=$3 out=${4:-} status
-  "$binary" "$command" <"$script" >"$told"
+  local wanted=$1 out=$2 script=$3 status
+  shift 3
+  "$binary" "$@" <"$script" >"$told"
   status=$?
   if [ "$status" -ne "$wanted" ]; then
-    echo "${script#"$top"/}, $command: status $status, and $wanted is due"
-  elif [ -n "$out" ] && ! cmp -s "$told" "$out"; then
-    echo "${script#"$top"/}, $command: '$(head -n 1 "$told")', and '$(head -n 1 "$out")' is due"
+    echo "${script#"$top"/}, rolis $*: status $status, and $wanted is due"
+  elif [ -e "$out" ] && ! cmp -s "$told" "$out"; then
+    echo "${script#"$top"/}, rolis $*: not what ${out#"$top"/} has:"
+    diff "$told" "$out" | head -n 5
   else
     right=$((right + 1))
     return
@@ -32,7 +36,7 @@ check() {
 
 for script in "$top"/examples/*.rolis; do
   for command in serial steps; do
-    check "$script" "$command" 0
+    check 0 "${script%.rolis}.$command.out" "$script" "$command"
   done
 done
 
@@ -41,9 +45,16 @@ for script in "$top"/examples/faults/*.rolis; do
   wanted=3
   [ "$(cut -d ' ' -f 1 "$out")" = limit ] && wanted=4
   for command in serial steps; do
-    check "$script" "$command" "$wanted" "$out"
+    check "$wanted" "$out" "$script" "$command"
   done
 done
+
+usage=$top/examples/usage.out
+script=$top/examples/two_transfers.rolis
+check 2 "$usage" "$script"
+check 2 "$usage" "$script" Serial
+check 2 "$usage" "$script" serial serial
+check 2 "$usage" "$script" rolis steps
 
 echo "examples: $right right, $wrong wrong"
 [ "$wrong" -eq 0 ]

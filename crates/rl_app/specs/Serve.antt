@@ -60,7 +60,7 @@ Delivers sink composed text status =
     ((status ≡ composed) × Wrote sink text)
     ⊎ ((status ≡ 6) × FaultsRose sink × WrotePrefix sink text)
 
--- a call composed a status and a text, as A says or for want of memory 7 and its line, and then wrote the text;
+-- a call composed a status and a text, as A says or, without memory, 7 and its line, and then wrote the text;
 -- where no write failed, the status is one that A says, or 7
 pub record Writes (A : ℕ → List ℕ → Type 0) (sink : Side) (status : ℕ) : Type 0 where
   pub composed : ℕ
@@ -76,7 +76,7 @@ abbrev pub IsAnswered : ℕ → Type 0
 IsAnswered status = (status ≡ 0) ⊎ (status ≡ 1) ⊎ (status ≡ 3) ⊎ (status ≡ 4)
 
 -- an input was read whole, keeps the limit, and has this answer, as A says
-pub record Answers (A : List ℕ → ℕ → List ℕ → Type 0) (limit : ℕ) (source : Side) (status : ℕ) (text : List ℕ) : Type 0 where
+pub record IsAnswer (A : List ℕ → ℕ → List ℕ → Type 0) (limit : ℕ) (source : Side) (status : ℕ) (text : List ℕ) : Type 0 where
   pub input : List ℕ
   pub was_read : WasRead source input
   pub within : length input ≤ limit
@@ -91,7 +91,7 @@ Stops limit source status text =
 
 -- what a call that reads composes
 abbrev pub Reads : (List ℕ → ℕ → List ℕ → Type 0) → ℕ → Side → ℕ → List ℕ → Type 0
-Reads A limit source status text = Answers A limit source status text ⊎ Stops limit source status text
+Reads A limit source status text = IsAnswer A limit source status text ⊎ Stops limit source status text
 
 -- a call read an input and wrote the answer to it that A says, or the line of what went wrong; where the source tells an
 -- input within the limit, and no read and no write failed, the status is that of an answer, or 7

@@ -14,6 +14,7 @@ use Rattle.rl_tables.specs.Numbers.{sizes_of, place_of}
 use Rattle.rl_worker.specs.Acts as acts
 use Rattle.rl_worker.specs.Workers.{refused}
 
+-- a text and its line end
 abbrev pub line : List ℕ → List ℕ
 line text = text ++ 10 ∷ []
 
@@ -21,6 +22,7 @@ line text = text ++ 10 ∷ []
 abbrev pub word : ℕ → List ℕ
 word n = 32 ∷ decimal n
 
+-- `done` or `declined OP`, after a space
 abbrev pub end_text : End → List ℕ
 end_text Done = codes " done"
 end_text (Declined op) = codes " declined" ++ word op
@@ -28,7 +30,8 @@ end_text (Declined op) = codes " declined" ++ word op
 -- `item E S W I done OUTS` or `item E S W I declined OP OUTS`
 unfoldable pub item_text : Item → List ℕ
 item_text item =
-    line (codes "item" ++ word item.stamp.epoch ++ word item.stamp.seq ++ word item.worker ++ word item.index ++ end_text item.reply.end ++ flat_map word item.reply.outs)
+    line (codes "item" ++ word item.stamp.epoch ++ word item.stamp.seq ++ word item.worker ++ word item.index
+    ++ end_text item.reply.end ++ flat_map word item.reply.outs)
 
 -- `row T K COLUMNS`, where the row is present
 unfoldable pub row_text : List ℕ → ℕ → Option (List ℕ) → List ℕ
@@ -52,16 +55,23 @@ serial_text items tables rows = codes "rolis serial\n" ++ run_text items tables 
 
 -- `locked T K WORD` or `changed T K SEEN FOUND`, each after a space
 abbrev pub cause_text : List Table → Refusal → List ℕ
-cause_text tables (Locked r found) = let place = place_of (sizes_of tables) r in codes " locked " ++ name_of tables place.0 ++ word place.1 ++ word found
-cause_text tables (Changed r seen found) = let place = place_of (sizes_of tables) r in codes " changed " ++ name_of tables place.0 ++ word place.1 ++ word seen ++ word found
+cause_text tables (Locked r found) =
+    let place = place_of (sizes_of tables) r in
+    codes " locked " ++ name_of tables place.0 ++ word place.1 ++ word found
+cause_text tables (Changed r seen found) =
+    let place = place_of (sizes_of tables) r in
+    codes " changed " ++ name_of tables place.0 ++ word place.1 ++ word seen ++ word found
 
 -- `refused 1 W I` and the cause: a refusal in epoch 1
 abbrev pub refused_text : List Table → ℕ → ℕ → Refusal → List ℕ
-refused_text tables worker index refusal = line (codes "refused 1" ++ word worker ++ word index ++ cause_text tables refusal)
+refused_text tables worker index refusal =
+    line (codes "refused 1" ++ word worker ++ word index ++ cause_text tables refusal)
 
+-- the line of a refusal that the core of epoch 1 kept
 abbrev pub refusal_text : List Table → acts.Refusal → List ℕ
 refusal_text tables f = refused_text tables f.worker f.index (refused f)
 
 -- the report of some steps: the refusals, of which the latest was kept first, the items and the rows after them
 unfoldable pub steps_text : List Table → List acts.Refusal → List Item → Rows → List ℕ
-steps_text tables refusals items rows = codes "rolis steps\n" ++ flat_map (refusal_text tables) (reverse refusals) ++ run_text items tables rows
+steps_text tables refusals items rows =
+    codes "rolis steps\n" ++ flat_map (refusal_text tables) (reverse refusals) ++ run_text items tables rows
