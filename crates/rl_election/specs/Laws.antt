@@ -124,4 +124,4 @@ SomeIsChosen = (g : Cluster) (w : StreamWorld) (epoch s : ℕ) → SomeLog (IsLe
 abbrev pub ProposalIsChosen : Type 0
 ProposalIsChosen = (open_mark : ℕ → Batch) (batch : Batch)
     → IsChosen (three_nodes open_mark) (streams_after (three_nodes open_mark) (one_election batch)) 1 1
-        (open_mark 1 ∷ batch ∷ [])
+    (open_mark 1 ∷ batch ∷ [])

@@ -55,7 +55,7 @@ stands_for g w a epoch =
     let x : Node = w.node a in
     if may_stand g x a epoch
     then acts w a (record x { acceptor = prepared x.acceptor epoch; role = Stands (candidate_of g epoch) })
-        (to_all g.nodes a (Prepare epoch))
+    (to_all g.nodes a (Prepare epoch))
     else w
 
 -- the initial logs of a leader are the recovered ones, each with the open mark
@@ -73,7 +73,7 @@ abbrev pub leads : Cluster → StreamWorld → (a : ℕ) → Candidate → Strea
 leads g w a c =
     let logs : List Log = initial_logs g c in
     with_term (acts w a (record (w.node a) { role = Leads c.epoch }) (syncs g a c.epoch logs g.streams)) c.epoch
-        (record { initial = logs; streams = map (new_leading c.epoch g.nodes g.second_quorum) logs })
+    (record { initial = logs; streams = map (new_leading c.epoch g.nodes g.second_quorum) logs })
 
 -- with the promises that it needs it leads, and before it stands on
 abbrev pub stands_or_leads : Cluster → StreamWorld → (a : ℕ) → Candidate → StreamWorld
@@ -140,7 +140,7 @@ abbrev pub proposes_in : Cluster → StreamWorld → (a epoch s : ℕ) → Batch
 proposes_in g w a epoch s batch None = w
 proposes_in g w a epoch s batch (Some t) =
     with_term (acts w a (w.node a) (to_all g.nodes a (Accept epoch s (length (stream_of t s).log) batch))) epoch
-        (with_stream t s (proposed (stream_of t s) batch))
+    (with_stream t s (proposed (stream_of t s) batch))
 
 -- a leader that is up proposes a batch
 abbrev pub proposes : Cluster → StreamWorld → (a s : ℕ) → Batch → Role → StreamWorld

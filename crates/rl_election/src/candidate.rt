@@ -29,7 +29,12 @@ impl Model for Candidate {
     ghost Value = { Candidate };
 
     ghost view = { λ c. record {
-        epoch = c.epoch; nodes = c.nodes; streams = c.streams; need = c.need; promises = c.promises.items } };
+      epoch = c.epoch;
+      nodes = c.nodes;
+      streams = c.streams;
+      need = c.need;
+      promises = c.promises.items;
+    } };
 
     ghost invariant = { λ c. CandidateFits c.nodes c.streams c.need (vec_capacity c.promises) c.promises.items };
 }

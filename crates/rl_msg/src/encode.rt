@@ -60,11 +60,36 @@ fn head_of(m: &Msg) -> Head
 {
     let (from, to, epoch) = match m {
         Msg::Prepare { from, to, epoch }
-        | Msg::Promise { from, to, epoch, .. }
-        | Msg::Sync { from, to, epoch, .. }
-        | Msg::Accept { from, to, epoch, .. }
-        | Msg::Ack { from, to, epoch, .. }
-        | Msg::Known { from, to, epoch, .. } => (*from, *to, *epoch),
+        | Msg::Promise {
+            from,
+            to,
+            epoch,
+            ..
+        }
+        | Msg::Sync {
+            from,
+            to,
+            epoch,
+            ..
+        }
+        | Msg::Accept {
+            from,
+            to,
+            epoch,
+            ..
+        }
+        | Msg::Ack {
+            from,
+            to,
+            epoch,
+            ..
+        }
+        | Msg::Known {
+            from,
+            to,
+            epoch,
+            ..
+        } => (*from, *to, *epoch),
     };
     Head { from, to, epoch }
 }

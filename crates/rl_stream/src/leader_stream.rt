@@ -6,12 +6,11 @@ ghost use Rattle.rl_stream.specs.Resends.{resend_of};
 
 use crate::acknowledged::acknowledged_len;
 use crate::propose_error::ProposeError;
+pub use rl_base::limit::SLOTS;
 use rl_base::list::{Bytes, Log};
 use rl_base::memory::Memory;
 use std::alloc::Global;
 use std::marker::Model;
-
-pub use rl_base::limit::SLOTS;
 
 /// The log of a stream at the leader of an epoch, and how much of it each node has acked.
 #[derive(Debug, Drop)]
@@ -31,7 +30,12 @@ impl Model for LeaderStream {
     ghost Value = { Leading };
 
     ghost view = { λ a. record {
-        epoch = a.epoch; quorum = a.quorum; initial_len = a.initial_len; log = a.log; acked = a.acked.items } };
+      epoch = a.epoch;
+      quorum = a.quorum;
+      initial_len = a.initial_len;
+      log = a.log;
+      acked = a.acked.items;
+    } };
 
     ghost invariant = { λ a. StreamFits a.quorum a.acknowledged a.log a.acked.items };
 }

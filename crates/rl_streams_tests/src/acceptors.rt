@@ -68,9 +68,15 @@ fn one_stream(rt: HostRuntime) -> Result<(), Fail> {
         (Call::Prepare { epoch: 5 }, Ok(0)),
         (Call::Prepare { epoch: 4 }, promised),
         (Call::Accept { epoch: 4, slot: 0 }, promised),
-        (Call::Accept { epoch: 5, slot: 0 }, Err(Refused::OtherBallot { ballot: 0 })),
+        (
+            Call::Accept { epoch: 5, slot: 0 },
+            Err(Refused::OtherBallot { ballot: 0 }),
+        ),
         (Call::Sync { epoch: 5, byte: 1 }, Ok(1)),
-        (Call::Accept { epoch: 5, slot: 2 }, Err(Refused::OutOfOrder { len: 1 })),
+        (
+            Call::Accept { epoch: 5, slot: 2 },
+            Err(Refused::OutOfOrder { len: 1 }),
+        ),
         (Call::Accept { epoch: 5, slot: 1 }, Ok(2)),
         (Call::Accept { epoch: 5, slot: 1 }, Ok(2)),
         (Call::Sync { epoch: 4, byte: 9 }, promised),

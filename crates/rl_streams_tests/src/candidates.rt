@@ -74,8 +74,12 @@ fn the_longest_log_of_the_highest_ballot(rt: HostRuntime) -> Result<(), Fail> {
     let mut candidate = Candidate::start(alloc, 3, 3, 1, 2)?;
     let early = RecoverError::NotYet { have: 0, need: 2 };
     assert_eq!(rt; candidate.recover(alloc).err(), Some(early));
-    let promised: [(u32, u32, &[u8], u32); 4] =
-        [(1, 1, b"ab", 1), (1, 1, b"ab", 1), (3, 2, b"a", 2), (1, 9, b"abc", 2)];
+    let promised: [(u32, u32, &[u8], u32); 4] = [
+        (1, 1, b"ab", 1),
+        (1, 1, b"ab", 1),
+        (3, 2, b"a", 2),
+        (1, 9, b"abc", 2),
+    ];
     for (node, ballot, bytes, have) in promised {
         promises(&rt, alloc, &mut candidate, node, ballot, bytes, have)?;
     }
@@ -86,8 +90,11 @@ fn the_longest_log_of_the_highest_ballot(rt: HostRuntime) -> Result<(), Fail> {
 fn one_log_of_three_and_no_slot_of_another(rt: HostRuntime) -> Result<(), Fail> {
     let alloc = rt.alloc();
     let mut candidate = Candidate::start(alloc, 4, 3, 1, 3)?;
-    let promised: [(u32, u32, &[u8], u32); 3] =
-        [(1, 1, b"ab", 1), (2, 2, b"ac", 2), (3, 3, b"a", 3)];
+    let promised: [(u32, u32, &[u8], u32); 3] = [
+        (1, 1, b"ab", 1),
+        (2, 2, b"ac", 2),
+        (3, 3, b"a", 3),
+    ];
     for (node, ballot, bytes, have) in promised {
         promises(&rt, alloc, &mut candidate, node, ballot, bytes, have)?;
     }
