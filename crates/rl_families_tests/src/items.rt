@@ -1,6 +1,6 @@
 //! Items for tests.
 
-ghost use Rattle.std.specs.Prelude.{◌≡◌};
+ghost use Rattle.std.specs.Prelude.{◌≡◌, length, IfOk};
 
 use rl_base::list::Seq;
 use rl_base::memory::Memory;
@@ -26,7 +26,9 @@ pub fn item(alloc: Global, stamp: Stamp, writes: Writes) -> Item
 }
 
 /// One item that writes nothing.
-pub fn only(alloc: Global, stamp: Stamp) -> Result<Items, Memory> {
+pub fn only(alloc: Global, stamp: Stamp) -> Result<Items, Memory>
+    ensures { IfOk result (λ items. length items ≡ 1) }
+{
     let mut items = Items::new(alloc);
     items.push(item(alloc, stamp, Seq::new(alloc)))?;
     Ok(items)

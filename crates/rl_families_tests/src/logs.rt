@@ -24,11 +24,11 @@ enum One {
 fn batch_of(alloc: Global, one: One) -> Result<Batch, Memory>
     ensures { IfOk result (λ batch. length (stamps_in_batch batch) ≡ 1) }
 {
-    Ok(match one {
-        One::Opened(epoch) => Batch::Opened(Stamp { epoch, seq: 1 }),
-        One::Item(epoch, seq) => Batch::Items(only(alloc, Stamp { epoch, seq })?),
-        One::Idle(epoch, seq) => Batch::Idle(Stamp { epoch, seq }),
-    })
+    match one {
+        One::Opened(epoch) => Ok(Batch::Opened(Stamp { epoch, seq: 1 })),
+        One::Item(epoch, seq) => Ok(Batch::Items(only(alloc, Stamp { epoch, seq })?)),
+        One::Idle(epoch, seq) => Ok(Batch::Idle(Stamp { epoch, seq })),
+    }
 }
 
 fn extend(

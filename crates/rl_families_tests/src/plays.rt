@@ -1,6 +1,6 @@
 //! A replica of two streams.
 
-ghost use Rattle.std.specs.Prelude.{◌≡◌, length, IfOk};
+ghost use Rattle.std.specs.Prelude.{◌≡◌, ◌≤◌, length, IfOk};
 
 use crate::items::{item, only};
 use rl_base::bound::Bound;
@@ -42,19 +42,40 @@ fn log_of(alloc: Global, values: &[(u64, u64)]) -> Result<Batches, Memory>
     Ok(log)
 }
 
-/// Plays the next entry of the log of stream 2, or of that of stream 1.
-fn play(
+/// Plays the next entry of one of two streams, whose log has one batch.
+fn play_stream(
     alloc: Global,
     replica: &mut Replica,
-    second: bool,
+    stream: u32,
     log: &Batches,
 ) -> Result<Played, Memory>
+    requires first_stream { 1 ≤ stream }
+    requires last_stream { stream ≤ 2 }
     requires two { length replica.old.played ≡ 2 }
     requires one { length log.now ≡ 1 }
     ensures { IfOk result (λ _. length replica.new.played ≡ 2) }
 {
-    let stream = if second { 2 } else { 1 };
     replica.play(alloc, stream, log, 1, Bound::Rising { seq: 3 }, 3)
+}
+
+/// Plays the next entry of the second stream, or of the first.
+fn play(
+    alloc: Global,
+    replica: &mut Replica,
+    is_second: bool,
+    first: &Batches,
+    second: &Batches,
+) -> Result<Played, Memory>
+    requires two { length replica.old.played ≡ 2 }
+    requires first_log { length first.now ≡ 1 }
+    requires second_log { length second.now ≡ 1 }
+    ensures { IfOk result (λ _. length replica.new.played ≡ 2) }
+{
+    if is_second {
+        play_stream(alloc, replica, 2, second)
+    } else {
+        play_stream(alloc, replica, 1, first)
+    }
 }
 
 fn value(replica: &Replica) -> u64 {
@@ -73,18 +94,30 @@ fn newer_stream_first(rt: HostRuntime) -> Result<(), Fail> {
     let first = log_of(alloc, &[(2, 5), (4, 7)])?;
     let second = log_of(alloc, &[(3, 6)])?;
     let mut replica = two_streams(alloc)?;
-    assert_eq!(rt; replica.next_epoch_of(2, &second, 1), Some(1));
-    let played = play(alloc, &mut replica, true, &second)?;
-    assert_eq!(rt; played, Played::Applied { stamp: stamp(3) });
-    assert_eq!(rt; replica.next_epoch_of(2, &second, 1), None);
+    let (next, watermark) = (stamp(4), 3);
+    let table = [
+        (true, Played::Applied { stamp: stamp(3) }),
+        (false, Played::Applied { stamp: stamp(2) }),
+        (false, Played::Above { next, watermark }),
+        (true, Played::Empty),
+    ];
+    for (is_second, want) in table {
+        let played = play(alloc, &mut replica, is_second, &first, &second)?;
+        assert_eq!(rt; played, want);
+    }
+    assert_eq!(rt; value(&replica), 6);
+    Ok(())
+}
+
+#[test]
+fn told_by_stamps(rt: HostRuntime) -> Result<(), Fail> {
+    let alloc = rt.alloc();
+    let log = log_of(alloc, &[(3, 6)])?;
+    let mut replica = two_streams(alloc)?;
+    assert_eq!(rt; replica.next_epoch_of(2, &log, 1), Some(1));
+    play_stream(alloc, &mut replica, 2, &log)?;
+    assert_eq!(rt; replica.next_epoch_of(2, &log, 1), None);
     assert!(rt; replica.at_watermark(&only(alloc, stamp(3))?));
     assert!(rt; !replica.at_watermark(&only(alloc, stamp(2))?));
-    let played = play(alloc, &mut replica, false, &first)?;
-    assert_eq!(rt; played, Played::Applied { stamp: stamp(2) });
-    assert_eq!(rt; value(&replica), 6);
-    let played = play(alloc, &mut replica, false, &first)?;
-    let next = stamp(4);
-    assert_eq!(rt; played, Played::Above { next, watermark: 3 });
-    assert_eq!(rt; play(alloc, &mut replica, true, &second)?, Played::Empty);
     Ok(())
 }
