@@ -6,10 +6,10 @@ use Rattle.std.proofs.lemmas.List.{append_assoc}
 use Rattle.std.proofs.lemmas.List.Elements.{All-head, All-tail}
 use Rattle.std.proofs.lemmas.List.Sums.{sum_by-cons}
 use Rattle.rl_base.specs.declared.limit.LimitName.TheVariants as limits
-use Rattle.rl_events.specs.Events.{event_of, read_event}
-use Rattle.rl_events.specs.Fits.{EventFits, count_of, elections_of}
 use Rattle.rl_base.specs.Results.{◌>>=◌}
 use Rattle.rl_text.specs.Printed.{Line}
+use Rattle.rl_events.specs.Events.{event_of, read_event}
+use Rattle.rl_events.specs.Fits.{EventFits, count_of, elections_of}
 use Rattle.rl_events.specs.Printed.{event_words}
 use Rattle.rl_events.specs.declared.event.Event.{Event}
 use Rattle.rl_events.specs.declared.event.Event.TheVariants as event

@@ -19,8 +19,8 @@ use Rattle.rl_value.proofs.PlacesLemmas.{places_total}
 use Rattle.rl_value.proofs.SchemaLemmas.{fits, schema_push}
 use Rattle.rl_txn.specs.Fits.{TxnFits}
 use Rattle.rl_txn.specs.declared.op.Op.{Op}
-use Rattle.rl_events.specs.Fits.{EventFits}
 use Rattle.rl_text.specs.Numbers.{IsWithin, IsNumber}
+use Rattle.rl_events.specs.Fits.{EventFits}
 use Rattle.rl_events.specs.declared.event.Event.{Event}
 use Rattle.rl_script.specs.declared.draft.Draft.{Draft}
 use Rattle.rl_script.specs.declared.draft.OpenTxn.{OpenTxn}

@@ -1,11 +1,11 @@
 -- Lines of words, read one after another.
 use Rattle.std.proofs.Common.{◌≡◌, ℕ, ◌+◌, ◌==◌, List, [], ◌∷◌, ◌++◌, All, map, true, false, None, Some, Option, Result, Ok, Err, refl, ap, ◌∙◌, if◌then◌else◌}
 use Rattle.std.proofs.lemmas.List.Elements.{All-head, All-tail}
+use Rattle.std.specs.Prelude.{slice_index}
 use Rattle.rl_base.specs.Results.{◌>>=◌}
-use Rattle.rl_text.proofs.WordsBack.{IsWord, words_of_line, printable_line}
 use Rattle.rl_text.specs.Printed.{line_of, Line}
 use Rattle.rl_text.specs.Text.{words_of}
-use Rattle.std.specs.Prelude.{slice_index}
+use Rattle.rl_text.proofs.WordsBack.{IsWord, words_of_line, printable_line}
 use Rattle.rl_events.specs.declared.kind.Kind.TheVariants.{Byte, Word, Order}
 use Rattle.rl_script.specs.declared.draft.Draft.{Draft}
 use Rattle.rl_script.specs.declared.fault.Problem.{Problem}

@@ -1,11 +1,12 @@
 -- The line of an op is read as the op again.
-use Rattle.std.proofs.Common.{◌≡◌, ℕ, ◌-◌, ◌<◌, ◌≤◌, ◌==◌, List, [], ◌∷◌, All, length, map, slice_index, true, false, Option, Some, None, is_some, Result, Ok, Err, codes, zero, suc, refl, ap, ◌∙◌, arith}
+use Rattle.std.proofs.Common.{◌≡◌, ℕ, ◌-◌, ◌<◌, ◌≤◌, ◌==◌, List, [], ◌∷◌, All, length, map, slice_index, true, false, Some, is_some, Result, Ok, Err, codes, zero, suc, refl, ap, ◌∙◌, arith}
 use Rattle.std.specs.Prelude.{ok_or, option_map}
 use Rattle.std.specs.List.{list_all}
 use Rattle.std.specs.Fmt.{decimal}
 use Rattle.std.proofs.lemmas.Bool.Decides.{nat_tests}
 use Rattle.std.proofs.lemmas.List.{length-map}
-use Rattle.std.proofs.lemmas.List.Elements.{All-head, All-tail, All-nil, All-cons, All-from_recursion}
+use Rattle.std.proofs.lemmas.List.Elements.{All-head, All-tail, All-cons, All-from_recursion}
+use Rattle.rl_base.specs.Results.{◌>>=◌}
 use Rattle.rl_value.specs.Names.{is_name, is_name_byte}
 use Rattle.rl_value.specs.Tables.{Table, IsTable, IsSchema, name_of, columns_of, table_named}
 use Rattle.rl_txn.specs.Fits.{OperandFits, OpFits}
@@ -15,13 +16,12 @@ use Rattle.rl_txn.specs.declared.op.Operand.{Operand}
 use Rattle.rl_txn.specs.declared.op.Operand.TheVariants.{Reg, Num}
 use Rattle.rl_txn.specs.declared.op.Rel.{Rel}
 use Rattle.rl_txn.specs.declared.op.Rel.TheVariants.{Eq, Ne, Lt, Le, Gt, Ge}
-use Rattle.rl_base.specs.Results.{◌>>=◌}
-use Rattle.rl_events.proofs.ReadBack.{number_back, within_back}
-use Rattle.rl_text.proofs.WordsBack.{IsWord, is_seen, decimal_is_word, each_is_word, number_of_decimal, number_within_decimal}
 use Rattle.rl_text.specs.Numbers.{number_of, IsNumber}
+use Rattle.rl_text.proofs.WordsBack.{IsWord, is_seen, decimal_is_word, each_is_word, number_of_decimal, number_within_decimal}
 use Rattle.rl_events.specs.Words.{number, within}
 use Rattle.rl_events.specs.declared.kind.Kind.{Kind}
 use Rattle.rl_events.specs.declared.kind.Kind.TheVariants.{Register, UnknownTable}
+use Rattle.rl_events.proofs.ReadBack.{number_back, within_back}
 use Rattle.rl_script.specs.Lines.{line_kind}
 use Rattle.rl_script.specs.Operations.{each_word, known_table, table_for, read_op, set_of, terms_of, get_of, has_of, put_of, del_of, scan_of, need_of, skip_of}
 use Rattle.rl_script.specs.Printed.{register_word, operand_word, relation_word, op_words}

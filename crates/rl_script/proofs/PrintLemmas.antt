@@ -8,13 +8,13 @@ use Rattle.std.proofs.lemmas.List.Folds.{flat_map-map}
 use Rattle.std.proofs.lemmas.Option.{get_or_from_slice_get, slice_get_within}
 use Rattle.rl_value.specs.Tables.{Table, name_of, size_of, columns_of}
 use Rattle.rl_txn.specs.declared.op.Op.{Op}
-use Rattle.rl_events.specs.Printed.{event_line, event_words}
+use Rattle.rl_txn.proofs.Folds.{range_push}
 use Rattle.rl_text.specs.Printed.{line_of, Line, text_of}
 use Rattle.rl_text.proofs.Texts.{text_joined}
+use Rattle.rl_events.specs.Printed.{event_line, event_words}
 use Rattle.rl_events.specs.declared.event.Event.{Event}
 use Rattle.rl_script.specs.Printed.{event_lines, header_line, list_lines, printed, rows_of_table, setting_lines, table_line, txn_lines}
 use Rattle.rl_script.specs.declared.script.Script.{Script}
-use Rattle.rl_txn.proofs.Folds.{range_push}
 
 -- lines that go on with those of the next number
 pub text_over_range : (f : ℕ → List Line) (n : ℕ) (before old new : List ℕ) → old ≡ before ++ text_of (flat_map f (range_with_len 0 n)) → new ≡ old ++ text_of (f n) → new ≡ before ++ text_of (flat_map f (range_with_len 0 (n + 1)))

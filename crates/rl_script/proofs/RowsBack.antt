@@ -7,16 +7,16 @@ use Rattle.std.specs.Ordering.{eq_by_cmp}
 use Rattle.std.proofs.lemmas.Bool.{cases_lt}
 use Rattle.std.proofs.lemmas.Bool.Decides.{nat_tests}
 use Rattle.std.proofs.lemmas.List.{length-map}
+use Rattle.rl_base.specs.Results.{◌>>=◌}
 use Rattle.rl_value.specs.Fits.{RowsFit}
 use Rattle.rl_value.specs.Rows.{Rows, place_cmp}
 use Rattle.rl_value.specs.Tables.{Table, IsSchema, name_of, size_of, columns_of}
 use Rattle.rl_value.proofs.PlacesLemmas.{places_total}
-use Rattle.rl_events.specs.Words.{number, within}
-use Rattle.rl_base.specs.Results.{◌>>=◌}
-use Rattle.rl_events.proofs.ReadBack.{within_back}
 use Rattle.rl_text.specs.Numbers.{IsNumber}
 use Rattle.rl_text.specs.Printed.{Line}
+use Rattle.rl_events.specs.Words.{number, within}
 use Rattle.rl_events.specs.declared.kind.Kind.TheVariants.{Duplicate}
+use Rattle.rl_events.proofs.ReadBack.{within_back}
 use Rattle.rl_script.specs.declared.draft.Draft.{Draft}
 use Rattle.rl_script.specs.declared.draft.Section.TheVariants as section
 use Rattle.rl_script.specs.declared.fault.Problem.TheVariants.{Fault}

@@ -6,16 +6,16 @@ use Rattle.std.proofs.lemmas.Bool.{cases_lt}
 use Rattle.std.proofs.lemmas.List.{length-replicate}
 use Rattle.std.proofs.lemmas.List.Elements.{All-tail}
 use Rattle.std.proofs.lemmas.List.Sums.{sum_by-cons}
+use Rattle.rl_base.specs.Results.{◌>>=◌}
 use Rattle.rl_value.specs.Fits.{RowsFit}
 use Rattle.rl_value.specs.Rows.{Rows, place_cmp}
 use Rattle.rl_value.specs.Tables.{Table, IsSchema}
 use Rattle.rl_value.proofs.PlacesLemmas.{places_total}
 use Rattle.rl_txn.specs.declared.op.Op.{Op}
 use Rattle.rl_txn.proofs.RowSets.{same_place}
-use Rattle.rl_events.specs.Fits.{EventFits, count_of, elections_of}
-use Rattle.rl_base.specs.Results.{◌>>=◌}
-use Rattle.rl_text.proofs.WordsBack.{IsWord, lines_of_text}
 use Rattle.rl_text.specs.Printed.{line_of, Line}
+use Rattle.rl_text.proofs.WordsBack.{IsWord, lines_of_text}
+use Rattle.rl_events.specs.Fits.{EventFits, count_of, elections_of}
 use Rattle.rl_events.specs.Printed.{event_words}
 use Rattle.rl_events.specs.declared.event.Event.{Event}
 use Rattle.rl_script.specs.declared.draft.Draft.{Draft}

@@ -6,8 +6,8 @@ use Rattle.std.proofs.lemmas.Bool.Decides.{nat_tests}
 use Rattle.std.proofs.lemmas.List.{append_assoc}
 use Rattle.std.proofs.lemmas.List.Elements.{All-head, All-tail}
 use Rattle.rl_base.specs.Results.{◌>>=◌}
-use Rattle.rl_events.proofs.ReadBack.{number_back, within_back}
 use Rattle.rl_text.specs.Numbers.{IsWithin}
+use Rattle.rl_events.proofs.ReadBack.{number_back, within_back}
 use Rattle.rl_script.specs.declared.draft.Draft.{Draft}
 use Rattle.rl_script.specs.declared.line.LineKind.TheVariants as line
 use Rattle.rl_script.specs.declared.script.Script.{Script}

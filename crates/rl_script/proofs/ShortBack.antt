@@ -23,8 +23,8 @@ use Rattle.rl_txn.specs.declared.op.Operand.{Operand}
 use Rattle.rl_txn.specs.declared.op.Operand.TheVariants.{Reg, Num}
 use Rattle.rl_txn.specs.declared.op.Rel.{Rel}
 use Rattle.rl_txn.specs.declared.op.Rel.TheVariants.{Eq, Ne, Lt, Le, Gt, Ge}
-use Rattle.rl_events.specs.Fits.{EventFits, count_of}
 use Rattle.rl_text.specs.Printed.{line_of, Line, text_of}
+use Rattle.rl_events.specs.Fits.{EventFits, count_of}
 use Rattle.rl_events.specs.Printed.{event_words}
 use Rattle.rl_events.specs.declared.event.Event.{Event}
 use Rattle.rl_events.specs.declared.event.Event.TheVariants as event

@@ -1,26 +1,23 @@
 -- The lines of the tables are read as the tables again.
-use Rattle.std.proofs.Common.{◌≡◌, ℕ, ◌+◌, ◌<◌, ◌≤◌, ◌==◌, Bool, true, false, cond, List, [], ◌∷◌, ◌++◌, length, map, get_or, slice_get, Option, None, Some, is_some, Ok, Err, codes, suc, refl, ap, sym, subst, ◌∙◌, arith, append-nil, length-append, if◌then◌else◌}
-use Rattle.std.specs.Prelude.{nat_lt}
+use Rattle.std.proofs.Common.{◌≡◌, ℕ, ◌+◌, ◌<◌, ◌≤◌, true, List, [], ◌∷◌, ◌++◌, length, map, get_or, Option, None, Some, Ok, Err, codes, refl, ap, sym, subst, ◌∙◌, arith, append-nil, length-append, if◌then◌else◌}
 use Rattle.std.specs.Fmt.{decimal}
-use Rattle.std.specs.List.{position_from}
 use Rattle.std.specs.Option.{option_map_or}
 use Rattle.std.specs.Str.{bytes_eq}
 use Rattle.std.proofs.lemmas.Bool.Decides.{nat_tests}
 use Rattle.std.proofs.lemmas.List.{append_assoc}
 use Rattle.std.proofs.lemmas.List.Sums.{sum_by-cons, sum_by-append}
-use Rattle.rl_base.specs.declared.limit.LimitName.TheVariants as limits
+use Rattle.rl_base.specs.Results.{◌>>=◌}
 use Rattle.rl_base.proofs.ListsLemmas.{get_last}
 use Rattle.rl_value.specs.Declare.{refusal}
 use Rattle.rl_value.specs.Tables.{Table, IsTable, IsSchema, name_of, table_named, record_count}
-use Rattle.rl_events.specs.Words.{within}
-use Rattle.rl_base.specs.Results.{◌>>=◌}
-use Rattle.rl_events.proofs.ReadBack.{within_back}
-use Rattle.rl_events.specs.declared.kind.Kind.TheVariants.{Duplicate, Name}
 use Rattle.rl_value.proofs.SchemaLemmas.{found_earlier}
+use Rattle.rl_events.specs.Words.{within}
+use Rattle.rl_events.specs.declared.kind.Kind.TheVariants.{Name}
+use Rattle.rl_events.proofs.ReadBack.{within_back}
 use Rattle.rl_script.specs.declared.draft.Draft.{Draft}
 use Rattle.rl_script.specs.declared.draft.Section.{Section}
 use Rattle.rl_script.specs.declared.draft.Section.TheVariants as section
-use Rattle.rl_script.specs.declared.fault.Problem.TheVariants.{Fault, Limit}
+use Rattle.rl_script.specs.declared.fault.Problem.TheVariants.{Fault}
 use Rattle.rl_script.specs.declared.line.LineKind.TheVariants as line
 use Rattle.rl_script.specs.Problems.{as_problem}
 use Rattle.rl_script.specs.Sections.{is_before_requests}

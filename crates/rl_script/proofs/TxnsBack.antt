@@ -8,12 +8,12 @@ use Rattle.std.proofs.lemmas.List.Elements.{All-head, All-tail}
 use Rattle.std.proofs.lemmas.List.Sums.{sum_by-append, sum_by-cons}
 use Rattle.rl_base.specs.Lists.{with_last}
 use Rattle.rl_base.specs.declared.limit.LimitName.TheVariants as limits
+use Rattle.rl_base.specs.Results.{◌>>=◌}
 use Rattle.rl_value.specs.Tables.{IsSchema}
 use Rattle.rl_txn.specs.Fits.{OpFits, TxnFits}
 use Rattle.rl_txn.specs.declared.op.Op.{Op}
-use Rattle.rl_base.specs.Results.{◌>>=◌}
-use Rattle.rl_events.proofs.ReadBack.{within_back}
 use Rattle.rl_text.specs.Printed.{Line}
+use Rattle.rl_events.proofs.ReadBack.{within_back}
 use Rattle.rl_script.specs.declared.draft.Draft.{Draft}
 use Rattle.rl_script.specs.declared.draft.OpenTxn.{OpenTxn}
 use Rattle.rl_script.specs.declared.draft.Section.{Section}

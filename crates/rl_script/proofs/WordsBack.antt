@@ -9,9 +9,9 @@ use Rattle.rl_value.specs.Rows.{Rows}
 use Rattle.rl_value.specs.Tables.{Table, IsTable, IsSchema, name_of, size_of}
 use Rattle.rl_txn.specs.Fits.{TxnFits}
 use Rattle.rl_txn.specs.declared.op.Op.{Op}
-use Rattle.rl_events.specs.Fits.{EventFits}
-use Rattle.rl_text.proofs.WordsBack.{IsWord, decimal_is_word, numbers_are_words, one_number, one_word}
 use Rattle.rl_text.specs.Printed.{Line}
+use Rattle.rl_text.proofs.WordsBack.{IsWord, decimal_is_word, numbers_are_words, one_number, one_word}
+use Rattle.rl_events.specs.Fits.{EventFits}
 use Rattle.rl_events.specs.Printed.{event_words}
 use Rattle.rl_events.specs.declared.event.Event.{Event}
 use Rattle.rl_events.proofs.ReadBack.{event_words_are_words, small_by_fit}

@@ -5,8 +5,8 @@ use Rattle.rl_value.specs.Fits.{RowsFit}
 use Rattle.rl_value.specs.Tables.{Table, IsSchema}
 use Rattle.rl_txn.specs.Fits.{TxnFits}
 use Rattle.rl_txn.specs.declared.op.Op.{Op}
-use Rattle.rl_events.specs.Fits.{EventsFit}
 use Rattle.rl_text.specs.Numbers.{IsWithin, IsNumber}
+use Rattle.rl_events.specs.Fits.{EventsFit}
 use Rattle.rl_script.specs.declared.draft.OpenTxn.{OpenTxn}
 use Rattle.rl_script.specs.declared.draft.Draft.{Draft}
 use Rattle.rl_script.specs.declared.script.TheConstants.{MOST_STOPS}

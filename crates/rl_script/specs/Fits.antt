@@ -6,8 +6,8 @@ use Rattle.rl_value.specs.Fits.{RowsFit}
 use Rattle.rl_value.specs.Rows.{Rows}
 use Rattle.rl_value.specs.Tables.{IsSchema}
 use Rattle.rl_txn.specs.Fits.{ListsFit}
-use Rattle.rl_events.specs.Fits.{EventsFit}
 use Rattle.rl_text.specs.Numbers.{IsNumber, IsWithin}
+use Rattle.rl_events.specs.Fits.{EventsFit}
 use Rattle.rl_script.specs.declared.script.Script.{Script}
 use Rattle.rl_script.specs.declared.script.TheConstants.{MOST_STOPS}
 

@@ -1,15 +1,15 @@
 -- What the line of an op says, without its first word.
 use Rattle.std.specs.Prelude.{ℕ, ◌-◌, ◌&&◌, List, [], ◌∷◌, length, ◌==◌, nat_le, Some, None, ok_or, Result, Ok, Err, if◌then◌else◌}
+use Rattle.rl_base.specs.Results.{◌>>=◌}
 use Rattle.rl_value.specs.Tables.{Table, table_named, columns_of}
 use Rattle.rl_txn.specs.declared.op.Op.{Op}
 use Rattle.rl_txn.specs.declared.op.Operand.{Operand}
 use Rattle.rl_txn.specs.declared.op.Op.TheVariants as op
 use Rattle.rl_events.specs.declared.kind.Kind.{Kind}
 use Rattle.rl_events.specs.declared.kind.Kind.TheVariants.{Count, UnknownTable}
+use Rattle.rl_events.specs.Words.{within}
 use Rattle.rl_script.specs.declared.line.OpWord.{OpWord}
 use Rattle.rl_script.specs.declared.line.OpWord.TheVariants as word
-use Rattle.rl_events.specs.Words.{within}
-use Rattle.rl_base.specs.Results.{◌>>=◌}
 use Rattle.rl_script.specs.Words.{register, operand, relation}
 
 -- the number of a table that is declared

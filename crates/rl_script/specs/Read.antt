@@ -5,15 +5,15 @@ use Rattle.std.specs.FinMap as map
 use Rattle.rl_base.specs.Lists.{with_last}
 use Rattle.rl_base.specs.declared.limit.TheConstants.{ELECTIONS, EVENTS, OPS, RECORDS, REQUESTS, TABLES}
 use Rattle.rl_base.specs.declared.limit.LimitName.TheVariants as limits
+use Rattle.rl_base.specs.Results.{◌>>=◌}
 use Rattle.rl_value.specs.Names.{is_name}
 use Rattle.rl_value.specs.Declare.{refusal}
 use Rattle.rl_value.specs.Tables.{size_of}
 use Rattle.rl_value.specs.declared.schema.DeclareError.TheVariants.{DuplicateTable, TooManyTables}
 use Rattle.rl_txn.specs.declared.op.Op.{Op}
+use Rattle.rl_text.specs.Text.{lines_of, words_of, is_printable}
 use Rattle.rl_events.specs.Events.{read_event}
 use Rattle.rl_events.specs.Fits.{count_of, elections_of}
-use Rattle.rl_base.specs.Results.{◌>>=◌}
-use Rattle.rl_text.specs.Text.{lines_of, words_of, is_printable}
 use Rattle.rl_events.specs.Words.{number, within}
 use Rattle.rl_events.specs.declared.event.Event.{Event}
 use Rattle.rl_events.specs.declared.line.EventWord.{EventWord}

@@ -1,11 +1,11 @@
 -- What the settings of a script are.
 use Rattle.std.specs.Prelude.{ℕ, List, [], ◌∷◌, ◌++◌, length, ◌==◌, Option, Some, None, unwrap_or, Result, Ok, Err, if◌then◌else◌, codes}
 use Rattle.std.specs.Str.{bytes_eq}
+use Rattle.rl_base.specs.Results.{◌>>=◌}
+use Rattle.rl_base.specs.declared.limit.TheConstants.{NODES, WORKERS}
 use Rattle.rl_events.specs.declared.kind.Kind.{Kind}
 use Rattle.rl_events.specs.declared.kind.Kind.TheVariants.{Duplicate}
 use Rattle.rl_events.specs.Words.{number, within}
-use Rattle.rl_base.specs.Results.{◌>>=◌}
-use Rattle.rl_base.specs.declared.limit.TheConstants.{NODES, WORKERS}
 use Rattle.rl_script.specs.declared.script.TheConstants.{MOST_STOPS}
 use Rattle.rl_script.specs.declared.settings.Settings.{Settings}
 use Rattle.rl_script.specs.declared.settings.SettingWord.{SettingWord}

@@ -5,9 +5,9 @@ use Rattle.rl_txn.specs.declared.op.Operand.{Operand}
 use Rattle.rl_txn.specs.declared.op.Operand.TheVariants.{Reg, Num}
 use Rattle.rl_txn.specs.declared.op.Rel.{Rel}
 use Rattle.rl_txn.specs.declared.op.Rel.TheVariants.{Eq, Ne, Lt, Le, Gt, Ge}
+use Rattle.rl_text.specs.Numbers.{number_of, number_within}
 use Rattle.rl_events.specs.declared.kind.Kind.{Kind}
 use Rattle.rl_events.specs.declared.kind.Kind.TheVariants.{Register, Relation}
-use Rattle.rl_text.specs.Numbers.{number_of, number_within}
 
 -- a word that must be a register, `r0` to `r15`
 unfoldable pub register : List ℕ → Result ℕ Kind

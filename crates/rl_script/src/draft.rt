@@ -1,14 +1,13 @@
 //! What the lines of a script say so far.
 
-ghost use Rattle.std.specs.Prelude.{◌≡◌, ◌≤◌, ◌<◌, [], All, MatchResult, None, Ok, IfOk, OnOk, true, false, length, map, replicate, vec_len};
+ghost use Rattle.std.specs.Prelude.{◌≡◌, ◌≤◌, ◌<◌, [], All, MatchResult, None, Ok, IfOk, OnOk, true, false, length, map, vec_len};
 ghost use Rattle.rl_value.specs.Names.{is_name};
-ghost use Rattle.rl_txn.specs.Fits.{OpFits};
+ghost use Rattle.rl_text.specs.Numbers.{IsNumber};
+ghost use Rattle.rl_events.specs.Words.{number};
 ghost use Rattle.rl_script.specs.Answers.{Fails};
 ghost use Rattle.rl_script.specs.Problems.{as_problem};
 ghost use Rattle.rl_script.specs.Drafts.{DraftFits};
-ghost use Rattle.rl_text.specs.Numbers.{IsNumber};
 ghost use Rattle.rl_script.specs.Sections.{is_before_requests, is_events, is_settings};
-ghost use Rattle.rl_events.specs.Words.{number};
 ghost use Rattle.rl_script.specs.Operations.{each_word};
 ghost use Rattle.rl_script.specs.Read.{setting, table_joined, declared, row_joined, txn_begun, txn_ended, op_joined, event_joined, in_order, read_kind, read_words, read_line, opening_draft};
 

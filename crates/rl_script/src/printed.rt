@@ -67,6 +67,22 @@ fn push_relation(out: &mut String, rel: Rel) -> Result<(), AllocError>
     })
 }
 
+/// `set`, a register and an operand.
+fn push_set(out: &mut String, d: u32, a: Operand) -> Result<(), AllocError>
+    ensures { OnOk result (string_bytes out.new ≡ string_bytes out.old ++ line_of (codes "set" ∷ register_word d ∷ operand_word a ∷ [])) }
+{
+    write!(out, "set r{d}")?;
+    push_operand(out, a)
+}
+
+/// `out` and an operand.
+fn push_out(out: &mut String, a: Operand) -> Result<(), AllocError>
+    ensures { OnOk result (string_bytes out.new ≡ string_bytes out.old ++ line_of (codes "out" ∷ operand_word a ∷ [])) }
+{
+    out.push_str("out")?;
+    push_operand(out, a)
+}
+
 /// A word, a register and two operands.
 fn push_sum(out: &mut String, word: &str, d: u32, a: Operand, b: Operand) -> Result<(), AllocError>
     ensures { OnOk result (string_bytes out.new ≡ string_bytes out.old ++ line_of (word.now ∷ register_word d ∷ operand_word a ∷ operand_word b ∷ [])) }
@@ -91,6 +107,21 @@ fn push_key(
     push_operand(out, key)
 }
 
+/// `has`, a table, a key and a register.
+fn push_has(
+    out: &mut String,
+    schema: &Schema,
+    t: u32,
+    key: Operand,
+    d: u32,
+) -> Result<(), AllocError>
+    requires { t < length schema.now }
+    ensures { OnOk result (string_bytes out.new ≡ string_bytes out.old ++ line_of (codes "has" ∷ name_of schema.now t ∷ operand_word key ∷ register_word d ∷ [])) }
+{
+    push_key(out, "has", schema, t, key)?;
+    write!(out, " r{d}")
+}
+
 /// A word and a relation between its operands.
 fn push_test(
     out: &mut String,
@@ -113,10 +144,7 @@ fn push_op(out: &mut String, schema: &Schema, op: &Op) -> Result<(), AllocError>
     ensures { OnOk result (string_bytes out.new ≡ string_bytes out.old ++ line_of (op_words schema.now op.now)) }
 {
     match op {
-        Op::Set { d, a } => {
-            write!(out, "set r{d}")?;
-            push_operand(out, *a)
-        }
+        Op::Set { d, a } => push_set(out, *d, *a),
         Op::Add { d, a, b } => push_sum(out, "add", *d, *a, *b),
         Op::Sub { d, a, b } => push_sum(out, "sub", *d, *a, *b),
         Op::Mul { d, a, b } => push_sum(out, "mul", *d, *a, *b),
@@ -129,10 +157,7 @@ fn push_op(out: &mut String, schema: &Schema, op: &Op) -> Result<(), AllocError>
             push_key(out, "get", schema, *table, *key)?;
             write!(out, " {column} r{d}")
         }
-        Op::Has { table, key, d } => {
-            push_key(out, "has", schema, *table, *key)?;
-            write!(out, " r{d}")
-        }
+        Op::Has { table, key, d } => push_has(out, schema, *table, *key, *d),
         Op::Put { table, key, values } => {
             push_key(out, "put", schema, *table, *key)?;
             push_operands(out, values.as_slice())
@@ -153,10 +178,7 @@ fn push_op(out: &mut String, schema: &Schema, op: &Op) -> Result<(), AllocError>
             push_test(out, "skip", *a, *rel, *b)?;
             write!(out, " {count}")
         }
-        Op::Out { a } => {
-            out.push_str("out")?;
-            push_operand(out, *a)
-        }
+        Op::Out { a } => push_out(out, *a),
     }
 }
 

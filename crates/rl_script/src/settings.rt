@@ -1,6 +1,6 @@
 //! The settings of a script.
 
-ghost use Rattle.std.specs.Prelude.{◌≡◌, [], MatchResult, Some, Ok, IfOk};
+ghost use Rattle.std.specs.Prelude.{◌≡◌, MatchResult, Some, Ok, IfOk};
 ghost use Rattle.std.specs.Option.{IsSomeAnd};
 ghost use Rattle.rl_text.specs.Numbers.{IsWithin};
 ghost use Rattle.rl_script.specs.Answers.{Fails};

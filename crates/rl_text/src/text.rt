@@ -1,6 +1,6 @@
 //! Lines and words of a text.
 
-ghost use Rattle.std.specs.Prelude.{◌≡◌, ◌<◌, ◌≤◌, ◌∷◌, ◌==◌, length, map, take, drop, IfOk, IfSome, IfNone, position, true, false, if◌then◌else◌};
+ghost use Rattle.std.specs.Prelude.{◌≡◌, ◌<◌, ◌≤◌, ◌∷◌, ◌==◌, length, map, take, IfOk, IfSome, IfNone, position, true, false, if◌then◌else◌};
 ghost use Rattle.rl_text.specs.Text.{lines_of, words_of, is_printable};
 
 use rl_base::slices::rest_from;

@@ -1,6 +1,6 @@
 use Rattle.std.proofs.Common.{◌≡◌, All, map, drop, vec_len}
-use Rattle.rl_events.specs.Words.{number}
 use Rattle.rl_text.specs.Numbers.{IsNumber}
+use Rattle.rl_events.specs.Words.{number}
 use Rattle.rl_script.specs.Operations.{each_word}
 use Rattle.rl_script.proofs.Each.{onto}
 use Rattle.rl_script.proofs.draft.numbers.Given as goal

@@ -1,7 +1,7 @@
 use Rattle.std.proofs.Common.{◌≡◌, ◌++◌, ap, ◌∙◌}
 use Rattle.std.specs.String.{string_bytes}
-use Rattle.rl_script.specs.Printed.{event_lines, printed}
 use Rattle.rl_text.specs.Printed.{text_of}
+use Rattle.rl_script.specs.Printed.{event_lines, printed}
 use Rattle.rl_script.specs.Read.{read}
 use Rattle.rl_script.proofs.PrintLemmas.{script_done}
 use Rattle.rl_script.proofs.ScriptBack.{script_back}

@@ -1,6 +1,6 @@
 use Rattle.std.proofs.Common.{arith}
-use Rattle.rl_script.specs.Printed.{txn_lines}
 use Rattle.rl_text.proofs.Texts.{parts_done}
+use Rattle.rl_script.specs.Printed.{txn_lines}
 use Rattle.rl_script.proofs.printed.push_list.Goals as goal
 
 pub returns : goal.returns

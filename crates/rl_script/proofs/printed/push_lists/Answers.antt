@@ -1,6 +1,6 @@
 use Rattle.std.proofs.Common.{take, ◌+◌}
-use Rattle.rl_script.specs.Printed.{list_lines}
 use Rattle.rl_text.proofs.Texts.{text_joined}
+use Rattle.rl_script.specs.Printed.{list_lines}
 use Rattle.rl_script.proofs.PrintLemmas.{list_more}
 use Rattle.rl_script.proofs.printed.push_lists.Goals as goal
 

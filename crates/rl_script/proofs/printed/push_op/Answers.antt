@@ -3,9 +3,9 @@ use Rattle.std.specs.List.{flat_map}
 use Rattle.std.specs.String.{string_bytes}
 use Rattle.std.proofs.lemmas.Result.{on_ok_weaker}
 use Rattle.rl_value.specs.Tables.{name_of}
-use Rattle.rl_script.specs.Printed.{op_words, operand_word}
-use Rattle.rl_text.proofs.Texts.{line_more}
 use Rattle.rl_text.specs.Printed.{line_of}
+use Rattle.rl_text.proofs.Texts.{line_more}
+use Rattle.rl_script.specs.Printed.{op_words, operand_word}
 use Rattle.rl_script.proofs.printed.push_op.Goals as goal
 
 pub returns-in_ok-push_key-in-Put : goal.returns-in_ok-push_key-in-Put

@@ -1,6 +1,6 @@
 use Rattle.std.proofs.Common.{arith}
-use Rattle.rl_script.specs.Printed.{op_words}
 use Rattle.rl_text.proofs.Texts.{lines_done}
+use Rattle.rl_script.specs.Printed.{op_words}
 use Rattle.rl_script.proofs.printed.push_ops.Goals as goal
 
 pub returns : goal.returns

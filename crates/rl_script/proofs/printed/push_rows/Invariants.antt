@@ -1,8 +1,8 @@
 use Rattle.std.proofs.Common.{◌≡◌, ◌++◌}
 use Rattle.std.specs.String.{string_bytes}
 use Rattle.std.specs.List.{flat_map, range_with_len}
-use Rattle.rl_script.specs.Printed.{rows_of_table}
 use Rattle.rl_text.specs.Printed.{text_of}
+use Rattle.rl_script.specs.Printed.{rows_of_table}
 use Rattle.rl_script.proofs.printed.push_rows.Given as goal
 
 abbrev pub invariant-loop-t : goal.invariant-loop-t

@@ -1,6 +1,6 @@
 use Rattle.std.proofs.Common.{arith, refl}
-use Rattle.rl_script.specs.Printed.{stop_line}
 use Rattle.rl_text.proofs.Texts.{lines_done}
+use Rattle.rl_script.specs.Printed.{stop_line}
 use Rattle.rl_script.proofs.printed.push_stops.Goals as goal
 
 pub returns : goal.returns

@@ -1,6 +1,6 @@
 use Rattle.std.proofs.Common.{map, take, ◌+◌, arith}
-use Rattle.rl_script.specs.Printed.{table_line}
 use Rattle.rl_text.proofs.Texts.{text_joined}
+use Rattle.rl_script.specs.Printed.{table_line}
 use Rattle.rl_script.proofs.PrintLemmas.{table_more}
 use Rattle.rl_script.proofs.printed.push_tables.Goals as goal
 
