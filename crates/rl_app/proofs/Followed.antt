@@ -4,20 +4,19 @@ use Rattle.std.proofs.lemmas.Grind.{flat_map-append}
 use Rattle.std.proofs.lemmas.List.{take_more, append-nil, get_or_default}
 use Rattle.rl_events.specs.declared.event.Event.{Event}
 use Rattle.rl_worker.specs.Phases.{Setting}
-use Rattle.rl_worker.specs.Acts.{Core, Turn, turn, run}
-use Rattle.rl_app.specs.Runs.{turns_in, turns_of, core_with}
+use Rattle.rl_worker.specs.Acts.{Core, Turn, turn, after_turns}
+use Rattle.rl_app.specs.Runs.{turns_in, turns_of, leader_of}
 use Rattle.rl_events.specs.declared.event.Event.TheVariants as event
 use Rattle.rl_script.specs.declared.script.Script.{Script}
-use Rattle.rl_value.specs.Tables.{record_count}
-use Rattle.rl_worker.specs.Opening.{setting_of}
+use Rattle.rl_worker.specs.Opening.{setting_of, core_after}
 
-pub in_turn : (s : Setting) (core : Core) (ts us : List Turn) → run s core (ts ++ us) ≡ run s (run s core ts) us
+pub in_turn : (s : Setting) (core : Core) (ts us : List Turn) → after_turns s core (ts ++ us) ≡ after_turns s (after_turns s core ts) us
 in_turn s core [] us = refl
 in_turn s core (t ∷ ts) us = in_turn s (turn s core t) ts us
 
-pub one_more : (s : Setting) (core : Core) (n : ℕ) (t : Turn) → run s core (replicate (n + 1) t) ≡ turn s (run s core (replicate n t)) t
+pub one_more : (s : Setting) (core : Core) (n : ℕ) (t : Turn) → after_turns s core (replicate (n + 1) t) ≡ turn s (after_turns s core (replicate n t)) t
 one_more s core zero t = refl
-one_more s core (suc n) t = let e : suc n + 1 ≡ suc (n + 1) = omega arith in ap (λ k. run s core (replicate k t)) e ∙ one_more s (turn s core t) n t
+one_more s core (suc n) t = let e : suc n + 1 ≡ suc (n + 1) = omega arith in ap (λ k. after_turns s core (replicate k t)) e ∙ one_more s (turn s core t) n t
 
 pub turns_more : (events : List Event) (i : ℕ) (e : Event) → i < length events → e ≡ get_or events i e → turns_of (take (i + 1) events) ≡ turns_of (take i events) ++ turns_in e
 turns_more events i e l is =
@@ -26,8 +25,8 @@ turns_more events i e l is =
 
 -- the core after one more event of a script
 pub after_more : (script : Script) (i : ℕ) → i < length script.events
-    → core_with script (turns_of (take (i + 1) script.events)) ≡ run (setting_of script.schema script.lists script.rows (replicate (record_count script.schema) 0) 1) (core_with script (turns_of (take i script.events))) (turns_in (get_or script.events i (event.Step 0 0 0)))
+    → core_after (leader_of script) (turns_of (take (i + 1) script.events)) ≡ after_turns (setting_of script.schema script.lists 1) (core_after (leader_of script) (turns_of (take i script.events))) (turns_in (get_or script.events i (event.Step 0 0 0)))
 after_more script i l =
     let e = get_or script.events i (event.Step 0 0 0) in
-    ap (core_with script) (turns_more script.events i e l (get_or_default script.events i (event.Step 0 0 0) e l))
-    ∙ in_turn (setting_of script.schema script.lists script.rows (replicate (record_count script.schema) 0) 1) _ (turns_of (take i script.events)) (turns_in e)
+    ap (core_after (leader_of script)) (turns_more script.events i e l (get_or_default script.events i (event.Step 0 0 0) e l))
+    ∙ in_turn (setting_of script.schema script.lists 1) _ (turns_of (take i script.events)) (turns_in e)

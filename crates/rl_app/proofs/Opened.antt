@@ -12,9 +12,10 @@ use Rattle.rl_script.specs.declared.script.Script.{Script}
 use Rattle.rl_worker.specs.declared.words.Words.{Words}
 use Rattle.rl_worker.specs.declared.worker.Worker.{Worker}
 use Rattle.rl_worker.specs.Phases.{Rest}
-use Rattle.rl_worker.specs.Opening.{opening_recs}
+use Rattle.rl_worker.specs.Opening.{opening_recs, core_after}
 use Rattle.rl_worker.specs.Workers.{RecordsFit, number_of, stamp_next}
-use Rattle.rl_app.specs.Runs.{IsFresh, IsByStamp, IsRun, core_with}
+use Rattle.rl_app.specs.Runs.{leader_of}
+use Rattle.rl_app.specs.Running.{IsFresh, IsBySeq, IsRun}
 
 counted : (tables : List Table) → sum (sizes_of tables) ≡ record_count tables
 counted [] = refl
@@ -40,7 +41,7 @@ some_there (y ∷ ys) (suc i) x e = omega (arith, some_there ys i x e)
 pub opened : (script : Script) (words : Words) (workers : Vec Worker Global) (decided : Vec Item Global) (text : String Global) (stamps : List ℕ) → ScriptFits script
     → words.records.items ≡ opening_recs script.schema script.rows stamps → words.next ≡ 2 → RecordsFit script.schema words.records.items → stamps ≡ replicate (sum (sizes_of script.schema)) 0
     → length workers.items ≡ script.workers → ((i : ℕ) (w : Worker) → slice_get workers.items i ≡ Some w → IsFresh i w) → decided.items ≡ [] → string_bytes text ≡ []
-    → IsRun script.schema script.lists (record { words = words; workers = workers; decided = decided; refused = text }) (core_with script [])
+    → IsRun script.schema script.lists (record { words = words; workers = workers; decided = decided; refused = text }) (core_after (leader_of script) [])
 opened script words workers decided text stamps fits recs next records zeros count each none empty =
     let stamps_are : stamps ≡ replicate (record_count script.schema) 0 = zeros ∙ ap (λ n. replicate n 0) (counted script.schema) in
     record {
@@ -62,11 +63,11 @@ opened script words workers decided text stamps fits recs next records zeros cou
           };
       count = count ∙ sym fits.one_list_each;
       records = records;
-      decided = ap (map _) (sym none);
-      by_stamp = by_none decided.items none;
+      decided = none;
+      by_seq = by_none decided.items none;
       refused = empty;
     }
   where
-    by_none : (xs : List Item) → xs ≡ [] → IsByStamp xs
+    by_none : (xs : List Item) → xs ≡ [] → IsBySeq xs
     by_none [] e = tt
     by_none (x ∷ xs) e = absurd (cc)

@@ -14,9 +14,10 @@ use Rattle.rl_txn.specs.declared.op.Op.{Op}
 use Rattle.rl_txn.specs.declared.item.Item.{Item}
 use Rattle.rl_script.specs.Fits.{ScriptFits}
 use Rattle.rl_script.specs.declared.script.Script.{Script}
-use Rattle.rl_worker.specs.Opening.{items_of, first_of, CoreFits}
-use Rattle.rl_worker.specs.Workers.{core_item}
-use Rattle.rl_app.specs.Runs.{IsByStamp, IsRun, core_of}
+use Rattle.rl_worker.specs.Opening.{first_of, CoreFits}
+use Rattle.rl_app.specs.Runs.{leader_of, core_of}
+use Rattle.rl_app.specs.Running.{IsRun}
+use Rattle.rl_app.specs.Steps.{decided_of}
 use Rattle.rl_app.specs.declared.run.Run.{Run}
 use Rattle.std.specs.String.{string_bytes}
 use Rattle.rl_app.specs.Texts.{refusal_text, run_text, steps_text}
@@ -29,24 +30,13 @@ after_append rows (y ∷ ys) x = after_append (after_writes rows y.writes) ys x
 pub after_more : (rows : Rows) (items : List Item) (i : ℕ) (x : Item) → i < length items → x ≡ get_or items i x → rows_after rows (take (i + 1) items) ≡ after_writes (rows_after rows (take i items)) x.writes
 after_more rows items i x l is = ap (rows_after rows) (take_more items i x l ∙ ap (λ z. take i items ++ z ∷ []) (sym is)) ∙ after_append rows (take i items) x
 
--- items of epoch 1 are those of the core
-pub items_back : (tables : List Table) (xs : List Item) → IsByStamp xs → items_of 1 (map (core_item tables) xs) ≡ xs
-items_back tables [] s = refl
-items_back tables (x ∷ xs) s =
-    let p : packed x.stamp ≡ 1 * 2 ^ 40 + x.stamp.seq = ap (λ n. n * 2 ^ 40 + x.stamp.seq) s.0 in
-    let seq : packed x.stamp - 1 * 2 ^ 40 ≡ x.stamp.seq = omega (arith, p) in
-    let one : ◌≡◌ {A = Item} (record { stamp = record { epoch = 1; seq = packed x.stamp - 1 * 2 ^ 40 }; worker = x.worker; index = x.index; reply = x.reply; writes = x.writes }) x =
-    ap (λ n. record { stamp = record { epoch = 1; seq = n }; worker = x.worker; index = x.index; reply = x.reply; writes = x.writes }) seq
-    ∙ ap (λ n. record { stamp = record { epoch = n; seq = x.stamp.seq }; worker = x.worker; index = x.index; reply = x.reply; writes = x.writes }) (sym s.0) in
-    ap (λ z. z ∷ items_of 1 (map (core_item tables) xs)) one ∙ ap (λ zs. x ∷ zs) (items_back tables xs s.2)
-
 -- what was printed, by what a run kept
 pub printed : (script : Script) (run : Run) (items : List Item) (rows : Rows) (text : List ℕ) → IsRun script.schema script.lists run (core_of script) → items ≡ run.decided.items → rows ≡ rows_after script.rows items
     → text ≡ codes "rolis steps\n" ++ string_bytes run.refused ++ run_text items script.schema rows
-    → text ≡ steps_text script.schema (core_of script).refusals (items_of 1 (core_of script).decided) (rows_after script.rows (items_of 1 (core_of script).decided))
+    → text ≡ steps_text script.schema (core_of script).refusals (decided_of script) (rows_after script.rows (decided_of script))
 unfolding steps_text
 printed script run items rows text is kept after_is e =
-    let back : items ≡ items_of 1 (core_of script).decided = kept ∙ sym (ap (items_of 1) is.decided ∙ items_back script.schema run.decided.items is.by_stamp) in
+    let back : items ≡ decided_of script = kept ∙ is.decided in
     e ∙ ap (λ z. codes "rolis steps\n" ++ z ++ run_text items script.schema rows) is.refused
     ∙ ap (λ z. codes "rolis steps\n" ++ flat_map (refusal_text script.schema) (reverse (core_of script).refusals) ++ run_text items script.schema z) after_is
     ∙ ap (λ xs. codes "rolis steps\n" ++ flat_map (refusal_text script.schema) (reverse (core_of script).refusals) ++ run_text xs script.schema (rows_after script.rows xs)) back
@@ -62,7 +52,7 @@ ones (suc n) zero l = refl
 ones (suc n) (suc r) l = ones n r (omega arith)
 
 -- a core opens with a script
-pub core_fits : (script : Script) → ScriptFits script → CoreFits script.schema script.lists script.rows (replicate (record_count script.schema) 0) 1
+pub core_fits : (script : Script) → ScriptFits script → CoreFits (leader_of script)
 core_fits script fits = record {
   schema = fits.tables;
   lists_fit = fits.lists;

@@ -6,7 +6,6 @@ use Rattle.std.specs.String.{string_bytes}
 use Rattle.std.proofs.lemmas.Grind.{reverse_onto, flat_map-append}
 use Rattle.std.proofs.lemmas.Bool.Decides.{nat_tests, eqb_tells}
 use Rattle.std.proofs.lemmas.List.{get_or-set_same, get_or-set_other, length-set, append-nil}
-use Rattle.rl_value.specs.Rows.{Rows}
 use Rattle.rl_value.specs.Tables.{Table}
 use Rattle.rl_txn.specs.declared.op.Op.{Op}
 use Rattle.rl_txn.specs.declared.item.Item.{Item}
@@ -16,11 +15,13 @@ use Rattle.rl_worker.specs.declared.worker.Worker.{Worker}
 use Rattle.rl_worker.specs.Phases.{Rest}
 use Rattle.rl_worker.specs.Acts as acts
 use Rattle.rl_worker.specs.Acts.{Core, Turn, Step, may, turn, step}
-use Rattle.rl_worker.specs.Opening.{setting_of}
-use Rattle.rl_worker.specs.Workers.{Stands, Steps, WorkerFits, RecordsFit, number_of, epoch_of, next_of, phase_of, decided_item, newly_decided, either, core_item, joined, refused, stamp_next, IsOf}
+use Rattle.rl_worker.specs.Opening.{setting_of, items_seen}
+use Rattle.rl_worker.specs.Workers.{Stands, Steps, WorkerFits, RecordsFit, IsItemOf, number_of, epoch_of, next_of, phase_of_worker, decided_item, newly_decided, either, with_item, stamp_next}
+use Rattle.rl_worker.specs.Told.{refused}
+use Rattle.rl_worker.specs.Items.{CoreItem}
 use Rattle.rl_app.specs.declared.run.Run.{Run}
 use Rattle.rl_app.specs.Texts.{refused_text, refusal_text}
-use Rattle.rl_app.specs.Runs.{IsByStamp, IsPlaced, IsRun}
+use Rattle.rl_app.specs.Running.{IsBySeq, IsInFirst, IsPlaced, IsRun}
 
 lt_true : (a b : ℕ) → a < b → nat_lt a b ≡ true
 lt_true a b h = grind (arith, nat_tests)
@@ -46,12 +47,12 @@ no_item None = refl
 no_item (Some x) = refl
 
 -- one more refusal is one more line
-added : (tables : List Table) (xs : List acts.Refusal) (f : Option acts.Refusal) → flat_map (refusal_text tables) (reverse xs) ++ option_map_or (refusal_text tables) f [] ≡ flat_map (refusal_text tables) (reverse (option_to_list f ++ xs))
+added : (tables : List Table) (xs : List acts.CoreRefusal) (f : Option acts.CoreRefusal) → flat_map (refusal_text tables) (reverse xs) ++ option_map_or (refusal_text tables) f [] ≡ flat_map (refusal_text tables) (reverse (option_to_list f ++ xs))
 added tables xs None = append-nil _
 added tables xs (Some f) = sym (ap (flat_map (refusal_text tables)) (reverse_onto xs f []) ∙ flat_map-append (refusal_text tables) (reverse xs) (f ∷ []) ∙ ap (λ z. flat_map (refusal_text tables) (reverse xs) ++ z) (append-nil (refusal_text tables f)))
 
 -- the line of a refusal is that of what was told
-line_of : (tables : List Table) (k q : ℕ) (f : Option acts.Refusal) → IfSome f (λ f. (f.worker ≡ k) × (f.index ≡ q)) → option_map_or (refused_text tables k q) (option_map refused f) [] ≡ option_map_or (refusal_text tables) f []
+line_of : (tables : List Table) (k q : ℕ) (f : Option acts.CoreRefusal) → IfSome f (λ f. (f.worker ≡ k) × (f.index ≡ q)) → option_map_or (refused_text tables k q) (option_map refused f) [] ≡ option_map_or (refusal_text tables) f []
 line_of tables k q None h = refl
 line_of tables k q (Some f) h = ap (λ w. refused_text tables w q (refused f)) (sym h.0) ∙ ap (λ i. refused_text tables f.worker i (refused f)) (sym h.1)
 
@@ -72,10 +73,10 @@ pub both_ok : {A B : Type 0} (r : Result A B) {P Q R : Type 0} → OnOk r P → 
 both_ok (Ok a) p q f = f p q
 both_ok (Err b) p q f = tt
 
--- an epoch that is the first
-pub to_one : (o : Option Item) (w : Worker) → epoch_of w ≡ 1 → IfSome o (IsOf w) → IfSome o (λ y. y.stamp.epoch ≡ 1)
-to_one None w is h = tt
-to_one (Some y) w is h = h.0 ∙ is
+-- an item of a worker of epoch 1 has a stamp of epoch 1
+pub in_first : (tables : List Table) (w : Worker) (o : Option CoreItem) → epoch_of w ≡ 1 → IfSome o (IsItemOf tables w) → IfSome o IsInFirst
+in_first tables w None one h = tt
+in_first tables w (Some x) one h = omega (arith, h.epoch, ap (λ n. n * 2 ^ 40) one)
 
 module _ (tables : List Table) (lists : List (List (List Op))) (run : Run) (core : Core) (is : IsRun tables lists run core) (k : ℕ) (first : 1 ≤ k) (last : k ≤ length lists) (x : Worker) (x_is : x ≡ get_or run.workers.items (k - 1) x) where
   within : k - 1 < length run.workers.items
@@ -99,18 +100,18 @@ module _ (tables : List Table) (lists : List (List (List Op))) (run : Run) (core
   seq : core.next ≡ 1 * 2 ^ 40 + run.words.next
   seq = placed.stands.next ∙ ap (λ e. stamp_next e run.words) placed.epoch
 
-  pub turned : (rows : Rows) (stamps : List ℕ) → run.words.next < 2 ^ 40 - 1 → turn (setting_of tables lists rows stamps 1) core (Step k) ≡ step (setting_of tables lists rows stamps 1) core k
-  turned rows stamps left =
-      let s = setting_of tables lists rows stamps 1 in
+  pub turned : run.words.next < 2 ^ 40 - 1 → turn (setting_of tables lists 1) core (Step k) ≡ step (setting_of tables lists 1) core k
+  turned left =
+      let s = setting_of tables lists 1 in
       let there : k < length core.workers = subst (λ n. n < length core.workers) number placed.stands.there in
       let a = lt_true 0 k (omega arith) in
       let b = lt_true k (length core.workers) there in
       let c = lt_true core.next s.last (omega (arith, seq, left)) in
       ap (λ t. if t then step s core k else core) (ap (λ t. t && (nat_lt k (length core.workers) && nat_lt core.next s.last)) a ∙ ap (λ t. t && nat_lt core.next s.last) b ∙ c)
 
-  pub stayed : (rows : Rows) (stamps : List ℕ) → 2 ^ 40 - 1 ≤ run.words.next → turn (setting_of tables lists rows stamps 1) core (Step k) ≡ core
-  stayed rows stamps none =
-      let s = setting_of tables lists rows stamps 1 in
+  pub stayed : 2 ^ 40 - 1 ≤ run.words.next → turn (setting_of tables lists 1) core (Step k) ≡ core
+  stayed none =
+      let s = setting_of tables lists 1 in
       let c = lt_false core.next s.last (omega (arith, seq, none)) in
       ap (λ t. if t then step s core k else core) (ap (λ t. nat_lt 0 k && (nat_lt k (length core.workers) && t)) c ∙ never (nat_lt 0 k) (nat_lt k (length core.workers)))
     where
@@ -120,25 +121,25 @@ module _ (tables : List Table) (lists : List (List (List Op))) (run : Run) (core
       never false b = refl
 
   module _ (words' : Words) (x' : Worker) (told : Moved) (core' : Core) (t : Steps tables x x' words' told core core') where
-    others : core'.workers ≡ set core.workers k (phase_of tables x')
-    others = t.others ∙ ap (λ n. set core.workers n (phase_of tables x')) number
+    others : core'.workers ≡ set core.workers k (phase_of_worker tables x')
+    others = t.others ∙ ap (λ n. set core.workers n (phase_of_worker tables x')) number
 
     pub after : (run' : Run) → run'.words ≡ words' → run'.workers.items ≡ set run.workers.items (k - 1) x' → WorkerFits tables lists x' → RecordsFit tables words'.records.items
-        → map (core_item tables) run'.decided.items ≡ joined (option_map (core_item tables) (newly_decided x x' told)) (map (core_item tables) run.decided.items) → IsByStamp run'.decided.items
+        → run'.decided.items ≡ items_seen 1 (with_item t.item core.decided) → IsBySeq run'.decided.items
         → string_bytes run'.refused ≡ string_bytes run.refused ++ option_map_or (refused_text tables k (next_of x)) told.refused [] → IsRun tables lists run' core'
     after run' ws items fit records decided sorted text = record {
       workers = λ i w e. place i w (ap (λ zs. slice_get zs i) (sym items) ∙ e) (eqb_tells i (k - 1));
       count = ap length items ∙ length-set run.workers.items (k - 1) x' ∙ is.count;
       records = subst (λ (z : Words). RecordsFit tables z.records.items) (sym ws) records;
-      decided = t.decided ∙ ap (joined (option_map (core_item tables) (newly_decided x x' told))) is.decided ∙ sym decided;
-      by_stamp = sorted;
+      decided = decided ∙ ap (items_seen 1) (sym t.decided);
+      by_seq = sorted;
       refused = text ∙ ap (λ z. z ++ option_map_or (refused_text tables k (next_of x)) told.refused []) is.refused
           ∙ ap (λ f. flat_map (refusal_text tables) (reverse core.refusals) ++ option_map_or (refused_text tables k (next_of x)) f []) t.refused
-          ∙ ap (λ z. flat_map (refusal_text tables) (reverse core.refusals) ++ z) (line_of tables k (next_of x) t.refusal (mine t.refusal t.of))
+          ∙ ap (λ z. flat_map (refusal_text tables) (reverse core.refusals) ++ z) (line_of tables k (next_of x) t.refusal (mine t.refusal t.of_refusal))
           ∙ added tables core.refusals t.refusal ∙ ap (λ fs. flat_map (refusal_text tables) (reverse fs)) (sym t.refusals);
     }
       where
-        mine : (f : Option acts.Refusal) → IfSome f (λ f. (f.worker ≡ number_of x) × (f.index ≡ next_of x)) → IfSome f (λ f. (f.worker ≡ k) × (f.index ≡ next_of x))
+        mine : (f : Option acts.CoreRefusal) → IfSome f (λ f. (f.worker ≡ number_of x) × (f.index ≡ next_of x)) → IfSome f (λ f. (f.worker ≡ k) × (f.index ≡ next_of x))
         mine None h = tt
         mine (Some f) h = (h.0 ∙ number, h.1)
 
@@ -168,7 +169,7 @@ module _ (tables : List Table) (lists : List (List (List Op))) (run : Run) (core
               stands = record {
                 recs = one.recs;
                 next = one.next ∙ ap (λ n. stamp_next n run'.words) (t.epoch ∙ placed.epoch ∙ sym old.epoch);
-                there = subst (λ n. number_of w < n) (sym (ap length others ∙ length-set core.workers k (phase_of tables x'))) old.stands.there;
-                phase = ap (λ ps. get_or ps (number_of w) (Rest 0)) others ∙ get_or-set_other core.workers k (number_of w) (phase_of tables x') (Rest 0) apart ∙ old.stands.phase;
+                there = subst (λ n. number_of w < n) (sym (ap length others ∙ length-set core.workers k (phase_of_worker tables x'))) old.stands.there;
+                phase = ap (λ ps. get_or ps (number_of w) (Rest 0)) others ∙ get_or-set_other core.workers k (number_of w) (phase_of_worker tables x') (Rest 0) apart ∙ old.stands.phase;
               };
             }

@@ -11,8 +11,8 @@ use Rattle.rl_txn.specs.declared.item.Item.{Item}
 use Rattle.rl_base.specs.declared.refusal.Refusal.{Refusal}
 use Rattle.rl_base.specs.declared.refusal.Refusal.TheVariants.{Locked, Changed}
 use Rattle.rl_tables.specs.Numbers.{sizes_of, place_of}
-use Rattle.rl_worker.specs.Acts as acts
-use Rattle.rl_worker.specs.Workers.{refused}
+use Rattle.rl_worker.specs.Acts.{CoreRefusal}
+use Rattle.rl_worker.specs.Told.{refused}
 
 -- a text and its line end
 abbrev pub line : List ℕ → List ℕ
@@ -68,10 +68,10 @@ refused_text tables worker index refusal =
     line (codes "refused 1" ++ word worker ++ word index ++ cause_text tables refusal)
 
 -- the line of a refusal that the core of epoch 1 kept
-abbrev pub refusal_text : List Table → acts.Refusal → List ℕ
+abbrev pub refusal_text : List Table → CoreRefusal → List ℕ
 refusal_text tables f = refused_text tables f.worker f.index (refused f)
 
 -- the report of some steps: the refusals, of which the latest was kept first, the items and the rows after them
-unfoldable pub steps_text : List Table → List acts.Refusal → List Item → Rows → List ℕ
+unfoldable pub steps_text : List Table → List CoreRefusal → List Item → Rows → List ℕ
 steps_text tables refusals items rows =
     codes "rolis steps\n" ++ flat_map (refusal_text tables) (reverse refusals) ++ run_text items tables rows

@@ -1,21 +1,22 @@
 //! The workers of one leader, step by step.
 
-ghost use Rattle.std.specs.Prelude.{◌≡◌, ◌+◌, ◌-◌, ◌<◌, ◌≤◌, ◌++◌, ◌^◌, ℕ, List, [], IfOk, OnOk, IfSome, Some, None, length, slice_get, get_or, map, replicate, reverse, sum, is_some, if◌then◌else◌};
+ghost use Rattle.std.specs.Prelude.{◌≡◌, ◌+◌, ◌-◌, ◌<◌, ◌≤◌, ◌++◌, ◌^◌, ℕ, List, [], IfOk, OnOk, IfSome, Some, None, length, slice_get, get_or, replicate, reverse, sum, is_some, if◌then◌else◌, Option};
 ghost use Rattle.std.specs.Option.{option_map, option_map_or, option_copied};
 ghost use Rattle.std.specs.String.{string_bytes};
-ghost use Rattle.rl_value.specs.Rows.{Rows};
-ghost use Rattle.rl_value.specs.Tables.{Table};
 ghost use Rattle.rl_tables.specs.Numbers.{sizes_of};
 ghost use Rattle.rl_txn.specs.Fits.{ListsFit};
 ghost use Rattle.rl_txn.specs.declared.item.Item.{Item};
 ghost use Rattle.rl_events.specs.Fits.{EventFits};
 ghost use Rattle.rl_script.specs.Fits.{ScriptFits};
-ghost use Rattle.rl_worker.specs.Acts.{Core, Step, turn, run};
-ghost use Rattle.rl_worker.specs.Opening.{setting_of};
-ghost use Rattle.rl_worker.specs.Workers.{core_item, joined, either, record_in, IsThere};
+ghost use Rattle.rl_worker.specs.Acts.{Core, Step, turn, after_turns};
+ghost use Rattle.rl_worker.specs.Items.{CoreItem, insert_by_stamp};
+ghost use Rattle.rl_worker.specs.Opening.{core_after, setting_of, item_seen, items_seen};
+ghost use Rattle.rl_worker.specs.Told.{record_in, NamesRecord};
+ghost use Rattle.rl_worker.specs.Workers.{either, with_item};
 ghost use Rattle.rl_worker.specs.declared.worker.Worker.{Worker};
 ghost use Rattle.rl_app.specs.Texts.{refused_text};
-ghost use Rattle.rl_app.specs.Runs.{IsRun, IsByStamp, IsFresh, core_with, core_of, turns_in};
+ghost use Rattle.rl_app.specs.Runs.{core_of, leader_of, turns_in};
+ghost use Rattle.rl_app.specs.Running.{IsRun, IsBySeq, IsFresh, IsInFirst};
 
 use rl_base::list::Stamps;
 use rl_base::memory::Memory;
@@ -48,7 +49,7 @@ impl Run {
     pub fn open(alloc: Global, layout: &Layout, script: &Script) -> Result<Run, Memory>
         requires layout { layout.now ≡ sizes_of script.now.schema }
         requires fits { ScriptFits script.now }
-        ensures { IfOk result (λ run. IsRun script.now.schema script.now.lists run (core_with script.now [])) }
+        ensures { IfOk result (λ run. IsRun script.now.schema script.now.lists run (core_after (leader_of script.now) [])) }
     {
         let stamps = no_stamps(alloc, layout.count())?;
         let words = Words::at(alloc, layout, &script.schema, &script.rows, &stamps)?;
@@ -74,7 +75,8 @@ impl Run {
         requires first { 1 ≤ worker }
         requires last { worker ≤ length lists.now }
         requires run { (core : Core) × IsRun schema.now lists.now self.old core }
-        ensures { (rows : Rows) (stamps : List ℕ) (core : Core) → IsRun schema.now lists.now self.old core → OnOk result (IsRun schema.now lists.now self.new (turn (setting_of schema.now lists.now rows stamps 1) core (Step worker))) }
+        ensures { (core : Core) → IsRun schema.now lists.now self.old core
+            → OnOk result (IsRun schema.now lists.now self.new (turn (setting_of schema.now lists.now 1) core (Step worker))) }
     {
         if self.words.next >= END_SEQ {
             return Ok(());
@@ -110,7 +112,8 @@ impl Run {
         requires first { 1 ≤ worker }
         requires last { worker ≤ length lists.now }
         requires run { (core : Core) × IsRun schema.now lists.now self.old core }
-        ensures { (rows : Rows) (stamps : List ℕ) (core : Core) → IsRun schema.now lists.now self.old core → OnOk result (IsRun schema.now lists.now self.new (run (setting_of schema.now lists.now rows stamps 1) core (replicate count (Step worker)))) }
+        ensures { (core : Core) → IsRun schema.now lists.now self.old core
+            → OnOk result (IsRun schema.now lists.now self.new (after_turns (setting_of schema.now lists.now 1) core (replicate count (Step worker)))) }
     {
         for _step in 0..count {
             self.step(alloc, layout, schema, lists, worker)?;
@@ -131,7 +134,8 @@ impl Run {
         requires lists { ListsFit schema.now lists.now }
         requires event { (nodes : ℕ) × EventFits nodes (length lists.now) event.now }
         requires run { (core : Core) × IsRun schema.now lists.now self.old core }
-        ensures { (rows : Rows) (stamps : List ℕ) (core : Core) → IsRun schema.now lists.now self.old core → OnOk result (IsRun schema.now lists.now self.new (run (setting_of schema.now lists.now rows stamps 1) core (turns_in event.now))) }
+        ensures { (core : Core) → IsRun schema.now lists.now self.old core
+            → OnOk result (IsRun schema.now lists.now self.new (after_turns (setting_of schema.now lists.now 1) core (turns_in event.now))) }
     {
         match event {
             Event::Step {
@@ -147,7 +151,7 @@ impl Run {
     pub fn follow(&mut self, alloc: Global, layout: &Layout, script: &Script) -> Result<(), Memory>
         requires layout { layout.now ≡ sizes_of script.now.schema }
         requires fits { ScriptFits script.now }
-        requires opened { IsRun script.now.schema script.now.lists self.old (core_with script.now []) }
+        requires opened { IsRun script.now.schema script.now.lists self.old (core_after (leader_of script.now) []) }
         ensures { OnOk result (IsRun script.now.schema script.now.lists self.new (core_of script.now)) }
     {
         for event in script.events.as_slice() {
@@ -199,10 +203,11 @@ fn workers(alloc: Global, count: u32) -> Result<Vec<Worker>, Memory>
 
 /// An item, if there is one, joins those of its epoch, by stamp.
 fn join(decided: &mut Vec<Item>, item: Option<Item>) -> Result<(), Memory>
-    requires sorted { IsByStamp decided.old.items }
-    requires epoch { IfSome item (λ x. x.stamp.epoch ≡ 1) }
-    ensures sorted { OnOk result (IsByStamp decided.new.items) }
-    ensures joined { (tables : List Table) → OnOk result (map (core_item tables) decided.new.items ≡ joined (option_map (core_item tables) item) (map (core_item tables) decided.old.items)) }
+    requires sorted { IsBySeq decided.old.items }
+    ensures sorted { OnOk result (IsBySeq decided.new.items) }
+    ensures joined { (core : List CoreItem) (new : Option CoreItem) → decided.old.items ≡ items_seen 1 core
+        → item ≡ option_map (item_seen 1) new → IfSome new IsInFirst
+        → OnOk result (decided.new.items ≡ items_seen 1 (with_item new core)) }
 {
     match item {
         Some(item) => insert(decided, item),
@@ -212,10 +217,11 @@ fn join(decided: &mut Vec<Item>, item: Option<Item>) -> Result<(), Memory>
 
 /// An item joins those of its epoch, by stamp.
 fn insert(decided: &mut Vec<Item>, item: Item) -> Result<(), Memory>
-    requires sorted { IsByStamp decided.old.items }
-    requires epoch { item.stamp.epoch ≡ 1 }
-    ensures sorted { OnOk result (IsByStamp decided.new.items) }
-    ensures joined { (tables : List Table) → OnOk result (map (core_item tables) decided.new.items ≡ joined (Some (core_item tables item)) (map (core_item tables) decided.old.items)) }
+    requires sorted { IsBySeq decided.old.items }
+    ensures sorted { OnOk result (IsBySeq decided.new.items) }
+    ensures joined { (core : List CoreItem) (new : CoreItem) → decided.old.items ≡ items_seen 1 core
+        → item ≡ item_seen 1 new → IsInFirst new
+        → OnOk result (decided.new.items ≡ items_seen 1 (insert_by_stamp new core)) }
 {
     let at = place_among(decided.as_slice(), item.stamp.seq);
     decided.insert(at, item)?;
@@ -245,7 +251,7 @@ fn push_refusal(
     refusal: Option<Refusal>,
 ) -> Result<(), Memory>
     requires layout { layout.now ≡ sizes_of schema.now }
-    requires there { IsThere schema.now refusal }
+    requires there { NamesRecord schema.now refusal }
     ensures { OnOk result (string_bytes out.new ≡ string_bytes out.old ++ option_map_or (refused_text schema.now worker index) refusal []) }
 {
     match refusal {

@@ -1,6 +1,6 @@
--- Updates of functions, and lists of writes.
-use Rattle.std.proofs.Common.{◌≡◌, ◌≢◌, ◌⊎◌, ℕ, List, [], ◌∷◌, ◌++◌, true, false, Some, None, refl, sym, arith, inl, inr, eq-eqb, ne_eqb, true≢false}
-use Rattle.std.proofs.lemmas.Bool.Decides.{eqb_tells}
+-- Updates of functions, tests, and lists of writes.
+use Rattle.std.proofs.Common.{◌≡◌, ◌≢◌, ◌⊎◌, ℕ, List, [], ◌∷◌, ◌++◌, true, false, Some, None, refl, sym, arith, inl, inr, eq-eqb, ne_eqb, true≢false, ◌<◌, ◌≤◌, Bool, nat_lt, if◌then◌else◌}
+use Rattle.std.proofs.lemmas.Bool.Decides.{eqb_tells, nat_tests}
 use Rattle.rl_worker.proofs.States.{Install, upd, has, row_at}
 
 pub upd_same : {A : Type 0} (f : ℕ → A) (i : ℕ) (x : A) → upd f i x i ≡ x
@@ -36,3 +36,14 @@ row_has r (y ∷ xs) row h = elim (eqb_tells r y.rec) [ inl t ↦ rw t.0 | inr t
 
 pub has_dec : (r : ℕ) (xs : List Install) → (has r xs ≡ true) ⊎ (has r xs ≡ false)
 has_dec r xs = grind arith
+
+-- the two ways of a test
+pub by_test : {A : Type 0} (P : A → Type 0) (b : Bool) (x y : A) → (b ≡ true → P x) → (b ≡ false → P y) → P (if b then x else y)
+by_test P true x y f g = f refl
+by_test P false x y f g = g refl
+
+pub test_lt : (a b : ℕ) → nat_lt a b ≡ true → a < b
+test_lt a b h = grind (arith, nat_tests)
+
+pub test_ge : (a b : ℕ) → nat_lt a b ≡ false → b ≤ a
+test_ge a b h = grind (arith, nat_tests)

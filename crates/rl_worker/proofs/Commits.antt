@@ -14,9 +14,13 @@ use Rattle.rl_worker.specs.declared.words.Words.{Words}
 use Rattle.rl_worker.specs.declared.commit.Commit.{Commit}
 use Rattle.rl_worker.specs.declared.commit.Part.TheVariants as part
 use Rattle.rl_worker.specs.Phases.{Answer, Install, Rec, Phase, Locking, Storing, Refusing, Setting}
-use Rattle.rl_worker.specs.Acts.{no_rec, target, lock_of, moved, next_after}
-use Rattle.rl_worker.specs.Opening.{install_of, cells_of}
-use Rattle.rl_worker.specs.Workers.{found, word, refusal_of, act_of, part_phase, commit_phase, stamp_next, RecordsFit, WriteFits, RowHas, IsAct}
+use Rattle.rl_worker.specs.Acts.{no_rec, target, lock_of, act_result, next_after}
+use Rattle.rl_worker.specs.Opening.{install_of}
+use Rattle.rl_value.specs.Cells.{cells_of}
+use Rattle.rl_worker.specs.Told.{found, word, act_of}
+use Rattle.rl_worker.specs.Attempts.{refusal_of, IsAct}
+use Rattle.rl_worker.specs.Workers.{part_phase, commit_phase, stamp_next, RecordsFit}
+use Rattle.rl_txn.specs.Fits.{WriteFits, RowHas}
 use Rattle.rl_worker.proofs.Places.{place_of_record}
 use Rattle.rl_worker.proofs.Settings.{sizes_length}
 
@@ -28,18 +32,18 @@ lt_is_false a b h = grind (arith, nat_tests)
 
 -- an act in a phase, on the record that is found
 pub act_at : (s : Setting) (w e : ℕ) (p0 p p' : Phase) (words words' : Words) (x : Rec) (told : code.Moved) → p0 ≡ p → found words.records.items (target p) ≡ x
-    → p' ≡ (moved s w (stamp_next e words) p x).phase
-    → words'.records.items ≡ set words.records.items (target p) (moved s w (stamp_next e words) p x).rec
-    → stamp_next e words' ≡ next_after (stamp_next e words) (moved s w (stamp_next e words) p x).event
-    → told.refused ≡ refusal_of (moved s w (stamp_next e words) p x).event
+    → p' ≡ (act_result s w (stamp_next e words) p x).phase
+    → words'.records.items ≡ set words.records.items (target p) (act_result s w (stamp_next e words) p x).rec
+    → stamp_next e words' ≡ next_after (stamp_next e words) (act_result s w (stamp_next e words) p x).effect
+    → told.refused ≡ refusal_of (act_result s w (stamp_next e words) p x).effect
     → told.act ≡ act_of words.next p x → told.ended ≡ None
     → IsAct s w e p0 p' words words' told
 act_at s w e p0 p p' words words' x told is fx ph rs nx rf ac en =
     subst (λ z. IsAct s w e z p' words words' told) (sym is) (record {
-      phase = ph ∙ ap (λ (y : Rec). (moved s w (stamp_next e words) p y).phase) (sym fx);
-      recs = rs ∙ ap (λ (y : Rec). set words.records.items (target p) (moved s w (stamp_next e words) p y).rec) (sym fx);
-      next = nx ∙ ap (λ (y : Rec). next_after (stamp_next e words) (moved s w (stamp_next e words) p y).event) (sym fx);
-      refused = rf ∙ ap (λ (y : Rec). refusal_of (moved s w (stamp_next e words) p y).event) (sym fx);
+      phase = ph ∙ ap (λ (y : Rec). (act_result s w (stamp_next e words) p y).phase) (sym fx);
+      recs = rs ∙ ap (λ (y : Rec). set words.records.items (target p) (act_result s w (stamp_next e words) p y).rec) (sym fx);
+      next = nx ∙ ap (λ (y : Rec). next_after (stamp_next e words) (act_result s w (stamp_next e words) p y).effect) (sym fx);
+      refused = rf ∙ ap (λ (y : Rec). refusal_of (act_result s w (stamp_next e words) p y).effect) (sym fx);
       act = ac ∙ ap (λ (y : Rec). act_of words.next p y) (sym fx);
       ended = en;
     })

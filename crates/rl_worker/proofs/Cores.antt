@@ -6,17 +6,24 @@ use Rattle.std.proofs.lemmas.List.{get_or-set_same, length-set, set-set, set-get
 use Rattle.rl_worker.specs.declared.act.Moved as code
 use Rattle.rl_worker.specs.declared.words.Words.{Words}
 use Rattle.rl_worker.specs.Phases.{Answer, Read, Install, Rec, Phase, Rest, Asking, Wanting, Loading, Locking, Validating, Storing, Refusing, Setting, other, asked, with_read}
-use Rattle.rl_worker.specs.Items.{Item}
+use Rattle.rl_worker.specs.Items.{CoreItem}
+use Rattle.rl_worker.specs.Acts.{Cause, Locked, Changed, Effect, Quiet, Drew, Won, Lost, Core, no_rec, target, quiet, lost, act_result, first_load_of, confirm_of, lock_of, next_after, decided_after, refusals_after, made_after, passing, resting, micro, settle}
+use Rattle.rl_worker.specs.Told.{found, refused}
+use Rattle.rl_worker.specs.Attempts.{refusal_of, act_in, IsAct}
+use Rattle.rl_worker.specs.Workers.{stamp_next, with_item}
 use Rattle.rl_worker.specs.Acts as acts
-use Rattle.rl_worker.specs.Acts.{Cause, Locked, Changed, Event, Quiet, Drew, Won, Lost, LostDrawn, Core, no_rec, target, quiet, lost, lost_drawn, moved, first_load_of, confirm_of, lock_of, next_after, decided_after, refusals_after, made_after, won, passing, resting, micro, settle}
-use Rattle.rl_worker.specs.Workers.{found, refused, refusal_of, made, stamp_next, IsAct, joined}
+
+-- the item that an act decided
+abbrev pub won : Effect → Option CoreItem
+won (Won x) = Some x
+won e = None
 
 -- the phase after one passing phase is passed
 abbrev pub passed : Setting → ℕ → Phase → Phase
-passed s w p = if passing p then (moved s w 0 p no_rec).phase else p
+passed s w p = if passing p then (act_result s w 0 p no_rec).phase else p
 
 -- the item that passing a phase decides
-abbrev pub wins : ℕ → Phase → Option Item
+abbrev pub wins : ℕ → Phase → Option CoreItem
 wins w (Rest q) = None
 wins w (Asking q reads) = None
 wins w (Wanting q reads r) = None
@@ -37,12 +44,11 @@ index_in (Validating q t done todo answer writes) = q
 index_in (Storing q t j todo) = q
 index_in (Refusing q todo) = q
 
-abbrev pub lost_in : Event → Option acts.Refusal
+abbrev pub lost_in : Effect → Option acts.CoreRefusal
 lost_in Quiet = None
-lost_in (Drew reads answer writes) = None
+lost_in Drew = None
 lost_in (Won x) = None
 lost_in (Lost f) = Some f
-lost_in (LostDrawn t f) = Some f
 
 -- a core with a worker in a phase
 pub record At (core : Core) (w : ℕ) (p : Phase) (rs : List Rec) (n : ℕ) : Type 0 where
@@ -52,55 +58,51 @@ pub record At (core : Core) (w : ℕ) (p : Phase) (rs : List Rec) (n : ℕ) : Ty
   pub phase : acts.phase_of core w ≡ p
 
 -- what an event adds to the lists of the core
-lost_added : (xs : List acts.Refusal) (e : Event) → refusals_after xs e ≡ option_to_list (lost_in e) ++ xs
+lost_added : (xs : List acts.CoreRefusal) (e : Effect) → refusals_after xs e ≡ option_to_list (lost_in e) ++ xs
 lost_added xs Quiet = refl
-lost_added xs (Drew reads answer writes) = refl
+lost_added xs Drew = refl
 lost_added xs (Won x) = refl
 lost_added xs (Lost f) = refl
-lost_added xs (LostDrawn t f) = refl
 
-lost_told : (e : Event) → refusal_of e ≡ option_map refused (lost_in e)
+lost_told : (e : Effect) → refusal_of e ≡ option_map refused (lost_in e)
 lost_told Quiet = refl
-lost_told (Drew reads answer writes) = refl
+lost_told Drew = refl
 lost_told (Won x) = refl
 lost_told (Lost f) = refl
-lost_told (LostDrawn t f) = refl
 
-none_won : (xs : List Item) (e : Event) → won e ≡ None → decided_after xs e ≡ xs
+none_won : (xs : List CoreItem) (e : Effect) → won e ≡ None → decided_after xs e ≡ xs
 none_won xs Quiet h = refl
-none_won xs (Drew reads answer writes) h = refl
+none_won xs Drew h = refl
 none_won xs (Won x) h = absurd (cc)
 none_won xs (Lost f) h = refl
-none_won xs (LostDrawn t f) h = refl
 
-none_made : (xs : List (ℕ × ℕ)) (e : Event) → won e ≡ None → made_after xs e ≡ xs
+none_made : (xs : List (ℕ × ℕ)) (e : Effect) → won e ≡ None → made_after xs e ≡ xs
 none_made xs Quiet h = refl
-none_made xs (Drew reads answer writes) h = refl
+none_made xs Drew h = refl
 none_made xs (Won x) h = absurd (cc)
 none_made xs (Lost f) h = refl
-none_made xs (LostDrawn t f) h = refl
 
--- an act that is made wins nothing, and a refusal is that of the phase's request
-abbrev pub Plain : ℕ → ℕ → Event → Type 0
+-- an act that is act_in wins nothing, and a refusal is that of the phase's request
+abbrev pub Plain : ℕ → ℕ → Effect → Type 0
 Plain w q e = (won e ≡ None) × IfSome (lost_in e) (λ f. (f.worker ≡ w) × (f.index ≡ q))
 
-plain_test : (w q : ℕ) (b : Bool) (x y : acts.Moved) → Plain w q x.event → Plain w q y.event → Plain w q (if b then x else y).event
+plain_test : (w q : ℕ) (b : Bool) (x y : acts.ActResult) → Plain w q x.effect → Plain w q y.effect → Plain w q (if b then x else y).effect
 plain_test w q true x y h k = h
 plain_test w q false x y h k = k
 
-plain_load : (w q : ℕ) (reads : List Read) (r : ℕ) (x : Rec) (o : Option ℕ) → Plain w q (first_load_of w q reads r x o).event
+plain_load : (w q : ℕ) (reads : List Read) (r : ℕ) (x : Rec) (o : Option ℕ) → Plain w q (first_load_of w q reads r x o).effect
 plain_load w q reads r x None = (refl, tt)
 plain_load w q reads r x (Some v) = (refl, (refl, refl))
 
-plain_confirm : (w q : ℕ) (reads : List Read) (r seen : ℕ) (loaded : List ℕ) (x : Rec) (o : Option ℕ) → Plain w q (confirm_of w q reads r seen loaded x o).event
+plain_confirm : (w q : ℕ) (reads : List Read) (r seen : ℕ) (loaded : List ℕ) (x : Rec) (o : Option ℕ) → Plain w q (confirm_of w q reads r seen loaded x o).effect
 plain_confirm w q reads r seen loaded x None = plain_test w q (x.stamp == seen) (quiet x (Asking q (with_read (record { rec = r; seen = seen; row = loaded }) reads))) (lost x (Rest q) w q r (Changed None seen x.stamp)) (refl, tt) (refl, (refl, refl))
 plain_confirm w q reads r seen loaded x (Some v) = (refl, (refl, refl))
 
-plain_lock : (w q : ℕ) (reads : List Read) (answer : Answer) (l : List Install) (y : Install) (todo : List Install) (x : Rec) (o : Option ℕ) → Plain w q (lock_of w q reads answer l y todo x o).event
+plain_lock : (w q : ℕ) (reads : List Read) (answer : Answer) (l : List Install) (y : Install) (todo : List Install) (x : Rec) (o : Option ℕ) → Plain w q (lock_of w q reads answer l y todo x o).effect
 plain_lock w q reads answer l y todo x None = (refl, tt)
 plain_lock w q reads answer l y todo x (Some v) = (refl, (refl, refl))
 
-plain : (s : Setting) (w n : ℕ) (p : Phase) (x : Rec) → passing p ≡ false → Plain w (index_in p) (moved s w n p x).event
+plain : (s : Setting) (w n : ℕ) (p : Phase) (x : Rec) → passing p ≡ false → Plain w (index_in p) (act_result s w n p x).effect
 plain s w n (Rest q) x h = (refl, tt)
 plain s w n (Asking q reads) x h = absurd (false≢true (sym h))
 plain s w n (Wanting q reads r) x h = plain_load w q reads r x x.holder
@@ -110,21 +112,21 @@ plain s w n (Locking q reads answer l []) x h = (refl, tt)
 plain s w n (Locking q reads answer l (y ∷ todo)) x h = plain_lock w q reads answer l y todo x x.holder
 plain s w n (Validating q t done [] answer writes) x h = absurd (false≢true (sym h))
 plain s w n (Validating q t done (y ∷ todo) answer writes) x h =
-    plain_test w q (other w x.holder) (lost_drawn x (Refusing q writes) t w q y.rec (Locked x.holder x.stamp)) (if x.stamp == y.seen then quiet x (Validating q t (done ++ y ∷ []) todo answer writes) else lost_drawn x (Refusing q writes) t w q y.rec (Changed x.holder y.seen x.stamp))
-    (refl, (refl, refl)) (plain_test w q (x.stamp == y.seen) (quiet x (Validating q t (done ++ y ∷ []) todo answer writes)) (lost_drawn x (Refusing q writes) t w q y.rec (Changed x.holder y.seen x.stamp)) (refl, tt) (refl, (refl, refl)))
+    plain_test w q (other w x.holder) (lost x (Refusing q writes) w q y.rec (Locked x.holder x.stamp)) (if x.stamp == y.seen then quiet x (Validating q t (done ++ y ∷ []) todo answer writes) else lost x (Refusing q writes) w q y.rec (Changed x.holder y.seen x.stamp))
+    (refl, (refl, refl)) (plain_test w q (x.stamp == y.seen) (quiet x (Validating q t (done ++ y ∷ []) todo answer writes)) (lost x (Refusing q writes) w q y.rec (Changed x.holder y.seen x.stamp)) (refl, tt) (refl, (refl, refl)))
 plain s w n (Storing q t j []) x h = absurd (false≢true (sym h))
 plain s w n (Storing q t j (y ∷ todo)) x h =
     plain_test w q (nat_lt j (length y.row)) (quiet (record { stamp = x.stamp; holder = x.holder; cells = set x.cells j (get_or y.row j 0) }) (Storing q t (suc j) (y ∷ todo))) (quiet (record { stamp = t; holder = None; cells = x.cells }) (Storing q t 0 todo)) (refl, tt) (refl, tt)
 plain s w n (Refusing q []) x h = absurd (false≢true (sym h))
 plain s w n (Refusing q (y ∷ todo)) x h = (refl, tt)
 
--- one act of the core, where the code made one
+-- one act of the core, where the code act_in one
 pub record Acted (core core' : Core) (w : ℕ) (p p' : Phase) (words' : Words) (e : ℕ) (t : code.Moved) : Type 0 where
   pub at : At core' w p' words'.records.items (stamp_next e words')
   pub workers : core'.workers ≡ set core.workers w p'
   pub decided : core'.decided ≡ core.decided
   pub made : core'.made ≡ core.made
-  pub refusal : Option acts.Refusal
+  pub refusal : Option acts.CoreRefusal
   pub refusals : core'.refusals ≡ option_to_list refusal ++ core.refusals
   pub told : t.refused ≡ option_map refused refusal
   pub of : IfSome refusal (λ f. (f.worker ≡ w) × (f.index ≡ index_in p))
@@ -132,56 +134,56 @@ pub record Acted (core core' : Core) (w : ℕ) (p p' : Phase) (words' : Words) (
 pub acted : (s : Setting) (core : Core) (w e : ℕ) (p p' : Phase) (words words' : Words) (told : code.Moved) → passing p ≡ false
     → At core w p words.records.items (stamp_next e words) → IsAct s w e p p' words words' told → Acted core (micro s core w) w p p' words' e told
 acted s core w e p p' words words' told still at a =
-    let m : acts.Moved = moved s w core.next (acts.phase_of core w) (get_or core.recs (target (acts.phase_of core w)) no_rec) in
-    let m_is : m ≡ made s w e p words =
-    ap (λ (z : Phase). moved s w core.next z (get_or core.recs (target z) no_rec)) at.phase
-    ∙ ap (λ (rs : List Rec). moved s w core.next p (get_or rs (target p) no_rec)) at.recs
-    ∙ ap (λ n. moved s w n p (found words.records.items (target p))) at.next in
-    let ev : m.event ≡ (made s w e p words).event = ap (λ (z : acts.Moved). z.event) m_is in
-    let ph : m.phase ≡ p' = ap (λ (z : acts.Moved). z.phase) m_is ∙ sym a.phase in
+    let m : acts.ActResult = act_result s w core.next (acts.phase_of core w) (get_or core.recs (target (acts.phase_of core w)) no_rec) in
+    let m_is : m ≡ act_in s w e p words =
+    ap (λ (z : Phase). act_result s w core.next z (get_or core.recs (target z) no_rec)) at.phase
+    ∙ ap (λ (rs : List Rec). act_result s w core.next p (get_or rs (target p) no_rec)) at.recs
+    ∙ ap (λ n. act_result s w n p (found words.records.items (target p))) at.next in
+    let ev : m.effect ≡ (act_in s w e p words).effect = ap (λ (z : acts.ActResult). z.effect) m_is in
+    let ph : m.phase ≡ p' = ap (λ (z : acts.ActResult). z.phase) m_is ∙ sym a.phase in
     let none = plain s w (stamp_next e words) p (found words.records.items (target p)) still in
     record {
       at = record {
-        recs = ap (λ (z : Phase). set core.recs (target z) m.rec) at.phase ∙ ap (λ (rs : List Rec). set rs (target p) m.rec) at.recs ∙ ap (λ (z : acts.Moved). set words.records.items (target p) z.rec) m_is ∙ sym a.recs;
-        next = ap (λ n. next_after n m.event) at.next ∙ ap (next_after (stamp_next e words)) ev ∙ sym a.next;
+        recs = ap (λ (z : Phase). set core.recs (target z) m.rec) at.phase ∙ ap (λ (rs : List Rec). set rs (target p) m.rec) at.recs ∙ ap (λ (z : acts.ActResult). set words.records.items (target p) z.rec) m_is ∙ sym a.recs;
+        next = ap (λ n. next_after n m.effect) at.next ∙ ap (next_after (stamp_next e words)) ev ∙ sym a.next;
         there = subst (λ n. w < n) (sym (length-set core.workers w m.phase)) at.there;
         phase = get_or-set_same core.workers w m.phase (Rest 0) at.there ∙ ph;
       };
       workers = ap (set core.workers w) ph;
-      decided = none_won core.decided m.event (ap won ev ∙ none.0);
-      made = none_made core.made m.event (ap won ev ∙ none.0);
-      refusal = lost_in (made s w e p words).event;
-      refusals = lost_added core.refusals m.event ∙ ap (λ z. option_to_list (lost_in z) ++ core.refusals) ev;
-      told = a.refused ∙ lost_told (made s w e p words).event;
+      decided = none_won core.decided m.effect (ap won ev ∙ none.0);
+      made = none_made core.made m.effect (ap won ev ∙ none.0);
+      refusal = lost_in (act_in s w e p words).effect;
+      refusals = lost_added core.refusals m.effect ∙ ap (λ z. option_to_list (lost_in z) ++ core.refusals) ev;
+      told = a.refused ∙ lost_told (act_in s w e p words).effect;
       of = none.1;
     }
 
 -- the stamp of an item that is won
-abbrev pub stamps_added : Option Item → List (ℕ × ℕ)
+abbrev pub stamps_added : Option CoreItem → List (ℕ × ℕ)
 stamps_added None = []
 stamps_added (Some x) = (x.worker, x.stamp) ∷ []
 
 -- a passing phase is passed
-pub record Settled (core core' : Core) (w : ℕ) (p' : Phase) (o : Option Item) (recs : List Rec) (n : ℕ) : Type 0 where
+pub record Settled (core core' : Core) (w : ℕ) (p' : Phase) (o : Option CoreItem) (recs : List Rec) (n : ℕ) : Type 0 where
   pub at : At core' w p' recs n
   pub workers : core'.workers ≡ set core.workers w p'
-  pub decided : core'.decided ≡ joined o core.decided
+  pub decided : core'.decided ≡ with_item o core.decided
   pub made : core'.made ≡ stamps_added o ++ core.made
   pub refusals : core'.refusals ≡ core.refusals
 
 module _ (s : Setting) (core : Core) (w : ℕ) (recs : List Rec) (n : ℕ) where
   -- an act that looks at no record
-  idle_act : (p p' : Phase) (e : Event) → At core w p recs n → ((x : Rec) (k : ℕ) → moved s w k p x ≡ record { phase = p'; rec = x; event = e }) → ((k : ℕ) → next_after k e ≡ k) → (o : Option Item) → ((xs : List Item) → decided_after xs e ≡ joined o xs)
-      → ((xs : List acts.Refusal) → refusals_after xs e ≡ xs) → ((xs : List (ℕ × ℕ)) → made_after xs e ≡ stamps_added o ++ xs) → Settled core (micro s core w) w p' o recs n
+  idle_act : (p p' : Phase) (e : Effect) → At core w p recs n → ((x : Rec) (k : ℕ) → act_result s w k p x ≡ record { phase = p'; rec = x; effect = e }) → ((k : ℕ) → next_after k e ≡ k) → (o : Option CoreItem) → ((xs : List CoreItem) → decided_after xs e ≡ with_item o xs)
+      → ((xs : List acts.CoreRefusal) → refusals_after xs e ≡ xs) → ((xs : List (ℕ × ℕ)) → made_after xs e ≡ stamps_added o ++ xs) → Settled core (micro s core w) w p' o recs n
   idle_act p p' e at is same o adds none makes =
       let found_rec : Rec = get_or core.recs (target (acts.phase_of core w)) no_rec in
-      let m : acts.Moved = moved s w core.next (acts.phase_of core w) found_rec in
-      let m_is : m ≡ record { phase = p'; rec = found_rec; event = e } = ap (λ (z : Phase). moved s w core.next z found_rec) at.phase ∙ is found_rec core.next in
-      let ev : m.event ≡ e = ap (λ (z : acts.Moved). z.event) m_is in
-      let ph : m.phase ≡ p' = ap (λ (z : acts.Moved). z.phase) m_is in
+      let m : acts.ActResult = act_result s w core.next (acts.phase_of core w) found_rec in
+      let m_is : m ≡ record { phase = p'; rec = found_rec; effect = e } = ap (λ (z : Phase). act_result s w core.next z found_rec) at.phase ∙ is found_rec core.next in
+      let ev : m.effect ≡ e = ap (λ (z : acts.ActResult). z.effect) m_is in
+      let ph : m.phase ≡ p' = ap (λ (z : acts.ActResult). z.phase) m_is in
       record {
         at = record {
-          recs = ap (λ (z : acts.Moved). set core.recs (target (acts.phase_of core w)) z.rec) m_is ∙ set-get_or core.recs (target (acts.phase_of core w)) no_rec ∙ at.recs;
+          recs = ap (λ (z : acts.ActResult). set core.recs (target (acts.phase_of core w)) z.rec) m_is ∙ set-get_or core.recs (target (acts.phase_of core w)) no_rec ∙ at.recs;
           next = ap (next_after core.next) ev ∙ same core.next ∙ at.next;
           there = subst (λ k. w < k) (sym (length-set core.workers w m.phase)) at.there;
           phase = get_or-set_same core.workers w m.phase (Rest 0) at.there ∙ ph;
@@ -204,7 +206,7 @@ module _ (s : Setting) (core : Core) (w : ℕ) (recs : List Rec) (n : ℕ) where
         made = refl;
       })
 
-  goes : (p p' : Phase) (o : Option Item) → At core w p recs n → passing p ≡ true → Settled core (micro s core w) w p' o recs n → Settled core (settle s core w) w p' o recs n
+  goes : (p p' : Phase) (o : Option CoreItem) → At core w p recs n → passing p ≡ true → Settled core (micro s core w) w p' o recs n → Settled core (settle s core w) w p' o recs n
   goes p p' o at passes done =
       let yes : passing (acts.phase_of core w) ≡ true = ap passing at.phase ∙ passes in
       let same : settle s core w ≡ micro s core w = ap (λ b. if b then micro s core w else core) yes in
@@ -217,7 +219,7 @@ module _ (s : Setting) (core : Core) (w : ℕ) (recs : List Rec) (n : ℕ) where
   settled (Loading q reads r seen loaded) at = stays (Loading q reads r seen loaded) at refl
   settled (Locking q reads answer l todo) at = stays (Locking q reads answer l todo) at refl
   settled (Validating q t done [] answer writes) at =
-      let item : Item = record { stamp = t; worker = w; index = q; answer = answer; writes = writes } in
+      let item : CoreItem = record { stamp = t; worker = w; index = q; answer = answer; writes = writes } in
       goes (Validating q t done [] answer writes) (Storing q t 0 writes) (Some item) at refl (idle_act (Validating q t done [] answer writes) _ (Won item) at (λ x k. refl) (λ k. refl) (Some item) (λ xs. refl) (λ xs. refl) (λ xs. refl))
   settled (Validating q t done (y ∷ todo) answer writes) at = stays (Validating q t done (y ∷ todo) answer writes) at refl
   settled (Storing q t j []) at = goes (Storing q t j []) (Rest (suc q)) None at refl (idle_act (Storing q t j []) _ Quiet at (λ x k. refl) (λ k. refl) None (λ xs. refl) (λ xs. refl) (λ xs. refl))

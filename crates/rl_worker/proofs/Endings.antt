@@ -1,7 +1,7 @@
 -- A transaction that has ended is to be committed.
 use Rattle.std.proofs.Common.{◌≡◌, ℕ, List, [], ◌∷◌, map, Option, Some, None, sym, ap, ◌∙◌, subst, arith, All}
 use Rattle.rl_value.specs.Tables.{Table, columns_of}
-use Rattle.rl_txn.specs.Fits.{TxnFits}
+use Rattle.rl_txn.specs.Fits.{TxnFits, WriteFits, RowHas}
 use Rattle.rl_txn.specs.Run.{run}
 use Rattle.rl_txn.specs.Eval.{rows_of, wants}
 use Rattle.rl_txn.specs.declared.op.Op.{Op}
@@ -12,7 +12,7 @@ use Rattle.rl_worker.specs.declared.commit.Commit.{Commit}
 use Rattle.rl_worker.specs.declared.commit.Part.TheVariants as part
 use Rattle.rl_worker.specs.Phases.{Answer, Read, Locking, asked}
 use Rattle.rl_worker.specs.Opening.{overlay_of, install_of, outcome_of, outcome}
-use Rattle.rl_worker.specs.Workers.{part_phase, commit_phase, WriteFits, RowHas}
+use Rattle.rl_worker.specs.Workers.{part_phase, commit_phase}
 use Rattle.rl_worker.proofs.Writes as writes
 use Rattle.rl_worker.proofs.Readings.{all_more}
 

@@ -27,11 +27,12 @@ use Rattle.rl_txn.specs.declared.item.Item as txn
 use Rattle.rl_txn.proofs.RowSets.{places_total, same_place}
 use Rattle.rl_txn.proofs.Known.{get_after}
 use Rattle.rl_txn.proofs.Evals.{op_same}
-use Rattle.rl_worker.specs.Phases.{Answer, Read, Rec, has, row_at}
-use Rattle.rl_worker.specs.Items.{Item}
-use Rattle.rl_worker.proofs.OwnLaw.{AllRows, or_row, apply, Serial, Rising, Distinct, indexes, upto}
+use Rattle.rl_worker.specs.Phases.{Answer, Read, Rec}
+use Rattle.rl_worker.specs.Items.{CoreItem}
 use Rattle.rl_worker.specs.Acts.{no_rec}
-use Rattle.rl_worker.specs.Opening.{cells_of, row_of, overlay_of, install_of, opening_recs, setting_of, item_of, items_of, CoreFits}
+use Rattle.rl_value.specs.Cells.{cells_of, row_of}
+use Rattle.rl_worker.specs.Opening.{overlay_of, install_of, opening_recs, setting_of, item_seen, items_seen, OpenLeader, CoreFits}
+use Rattle.rl_worker.proofs.OwnLaw.{AllRows, or_row, apply, Serial, Rising, Distinct, indexes, upto, has, row_at}
 use Rattle.rl_worker.proofs.Basics.{has_row}
 use Rattle.rl_worker.proofs.Places.{record_of_place, place_past_all}
 use Rattle.rl_worker.proofs.Writes.{WriteFits, WritesFit, run_fits, run_distinct, place_of_write}
@@ -158,12 +159,27 @@ module _ (tables : List Table) where
         | inr n ↦ absurd (true≢false (sym e ∙ n.0))
       ]
 
-module _ (tables : List Table) (lists : List (List (List Op))) (rows : Rows) (stamps : List ℕ) (epoch : ℕ) (fits : CoreFits tables lists rows stamps epoch) where
+module _ (l : OpenLeader) (fits : CoreFits l) where
+  abbrev tables : List Table
+  tables = l.tables
+
+  abbrev lists : List (List (List Op))
+  lists = l.lists
+
+  abbrev rows : Rows
+  rows = l.rows
+
+  abbrev stamps : List ℕ
+  stamps = l.stamps
+
+  abbrev epoch : ℕ
+  epoch = l.epoch
+
   pub stands_opening : Stands tables (λ r. (get_or (opening_recs tables rows stamps) r no_rec).cells) rows
   stands_opening = record {
     row = λ r. elim (cases_lt r (sum (sizes_of tables))) [
-      | inl a ↦ ap (λ (x : Rec). row_of x.cells) (rec_at tables lists rows stamps epoch fits r a) ∙ row_cells _ _
-      | inr b ↦ ap (λ (x : Rec). row_of x.cells) (rec_past tables lists rows stamps epoch fits r b) ∙ sym (nothing r b (finite.get rows (place_of (sizes_of tables) r)) refl)
+      | inl a ↦ ap (λ (x : Rec). row_of x.cells) (rec_at l fits r a) ∙ row_cells _ _
+      | inr b ↦ ap (λ (x : Rec). row_of x.cells) (rec_past l fits r b) ∙ sym (nothing r b (finite.get rows (place_of (sizes_of tables) r)) refl)
     ];
   }
     where
@@ -173,7 +189,7 @@ module _ (tables : List Table) (lists : List (List (List Op))) (rows : Rows) (st
           let within = fits.rows_fit (place_of (sizes_of tables) r).0 (place_of (sizes_of tables) r).1 row e in
           absurd (omega (arith, within.0, place_past_all (sizes_of tables) r b, sizes_length tables))
 
-  runs : (xs : List Item) (m : ℕ → List ℕ) (now : Rows) → Stands tables m now → Serial (setting_of tables lists rows stamps epoch) m xs → Runs tables lists now (items_of epoch xs)
+  runs : (xs : List CoreItem) (m : ℕ → List ℕ) (now : Rows) → Stands tables m now → Serial (setting_of tables lists epoch) m xs → Runs tables lists now (items_seen epoch xs)
   runs [] m now s h = tt
   runs (x ∷ xs) m now s h =
       let d = ending tables lists x.worker x.index h.0.reads x.answer x.writes h.0.ends in
@@ -185,11 +201,11 @@ module _ (tables : List Table) (lists : List (List (List Op))) (rows : Rows) (st
       let next : Stands tables (apply x.writes m) (after_writes now x.answer.1) = subst (λ z. Stands tables (apply z m) (after_writes now x.answer.1)) (sym d.writes_are) (stands_writes tables x.answer.1 fit apart m now s) in
       (subst (λ o. IsSomeAnd o (λ txn. run tables txn now ≡ (x.answer.0, x.answer.1))) (sym d.is) same, runs xs (apply x.writes m) (after_writes now x.answer.1) next h.1)
 
-  packed_is : (x : Item) → epoch * 2 ^ 40 ≤ x.stamp → packed (item_of epoch x).stamp ≡ x.stamp
+  packed_is : (x : CoreItem) → epoch * 2 ^ 40 ≤ x.stamp → packed (item_seen epoch x).stamp ≡ x.stamp
   packed_is x h = omega arith
 
-  stamps_rise : (xs : List Item) (b : ℕ) → epoch * 2 ^ 40 ≤ b → Rising b xs → (k : ℕ) → k + 1 < length (map (λ (i : txn.Item). packed i.stamp) (items_of epoch xs))
-      → slice_index (map (λ (i : txn.Item). packed i.stamp) (items_of epoch xs)) k < slice_index (map (λ (i : txn.Item). packed i.stamp) (items_of epoch xs)) (k + 1)
+  stamps_rise : (xs : List CoreItem) (b : ℕ) → epoch * 2 ^ 40 ≤ b → Rising b xs → (k : ℕ) → k + 1 < length (map (λ (i : txn.Item). packed i.stamp) (items_seen epoch xs))
+      → slice_index (map (λ (i : txn.Item). packed i.stamp) (items_seen epoch xs)) k < slice_index (map (λ (i : txn.Item). packed i.stamp) (items_seen epoch xs)) (k + 1)
   stamps_rise [] b l r k h = absurd (omega arith)
   stamps_rise (x ∷ []) b l r k h = absurd (omega arith)
   stamps_rise (x ∷ y ∷ xs) b l r zero h =
@@ -200,16 +216,16 @@ module _ (tables : List Table) (lists : List (List (List Op))) (rows : Rows) (st
       let n : suc k + 1 ≡ suc (k + 1) = omega arith in
       rw n (stamps_rise (y ∷ xs) (suc x.stamp) (omega (arith, r.0)) r.1 k (omega arith))
 
-  pub serial : (xs : List Item) → Rising (epoch * 2 ^ 40 + 2) xs → Serial (setting_of tables lists rows stamps epoch) (λ r. (get_or (opening_recs tables rows stamps) r no_rec).cells) xs → IsSerial tables lists rows (items_of epoch xs)
+  pub serial : (xs : List CoreItem) → Rising (epoch * 2 ^ 40 + 2) xs → Serial (setting_of tables lists epoch) (λ r. (get_or (opening_recs tables rows stamps) r no_rec).cells) xs → IsSerial tables lists rows (items_seen epoch xs)
   serial xs rise h = record {
     rising = stamps_rise xs (epoch * 2 ^ 40 + 2) (omega arith) rise;
     runs = runs xs (λ r. (get_or (opening_recs tables rows stamps) r no_rec).cells) rows stands_opening h;
   }
 
 -- ---- the indexes of one worker ----
-pub indexes_same : (epoch w : ℕ) (xs : List Item) → indexes_of w (items_of epoch xs) ≡ indexes w xs
+pub indexes_same : (epoch w : ℕ) (xs : List CoreItem) → indexes_of w (items_seen epoch xs) ≡ indexes w xs
 indexes_same epoch w [] = refl
-indexes_same epoch w (x ∷ xs) = elim (x.worker == w) as (λ b. map (λ (i : txn.Item). i.index) (cond b (item_of epoch x ∷ filter (λ (i : txn.Item). i.worker == w) (items_of epoch xs)) (filter (λ (i : txn.Item). i.worker == w) (items_of epoch xs))) ≡ (if b then x.index ∷ indexes w xs else indexes w xs)) [
+indexes_same epoch w (x ∷ xs) = elim (x.worker == w) as (λ b. map (λ (i : txn.Item). i.index) (cond b (item_seen epoch x ∷ filter (λ (i : txn.Item). i.worker == w) (items_seen epoch xs)) (filter (λ (i : txn.Item). i.worker == w) (items_seen epoch xs))) ≡ (if b then x.index ∷ indexes w xs else indexes w xs)) [
   | true ↦ ap (λ z. x.index ∷ z) (indexes_same epoch w xs)
   | false ↦ indexes_same epoch w xs
 ]

@@ -3,11 +3,12 @@ use Rattle.std.proofs.Common.{◌≡◌, ◌≢◌, ◌⊎◌, ℕ, suc, ◌<◌
 use Rattle.std.proofs.lemmas.Grind.{common_steps}
 use Rattle.std.proofs.Math.Seq.{take-suc, take-suc-set}
 use Rattle.std.proofs.lemmas.Bool.Decides.{eqb_tells}
-use Rattle.rl_worker.proofs.States.{Answer, Read, Install, Rec, Phase, Rest, Asking, Wanting, Loading, Locking, Validating, Storing, Refusing, State, Setting, upd, has, row_at, sets}
+use Rattle.rl_worker.proofs.States.{Answer, Read, Install, Rec, Phase, Rest, Asking, Wanting, Loading, Locking, Validating, Storing, Refusing, State, upd, has, row_at, sets}
 use Rattle.rl_worker.proofs.Inv.{held, pending, settled_by, settled, Version, Stored, Knows, Inv}
 use Rattle.rl_worker.proofs.Basics.{upd_same, upd_other, by_upd, has_append, has_append_old, has_append_new}
 use Rattle.rl_worker.proofs.Keeps.{Keeps, knows_kept, final_kept, reads_kept}
 use Rattle.rl_worker.proofs.Local.{decided_lives, settled_goes, Lawful}
+use Rattle.rl_worker.proofs.OwnLaw.{Ground}
 
 pub both : (a b : Bool) → (a && b) ≡ true → (a ≡ true) × (b ≡ true)
 both true b h = (refl, h)
@@ -28,16 +29,16 @@ store_more cells row j less same e = take-suc-set cells j (get_or row j 0) (omeg
 pub stored_whole : (cells row : List ℕ) (j : ℕ) → length row ≤ j → length cells ≡ length row → take j cells ≡ take j row → cells ≡ row
 stored_whole cells row j long same e = grind (arith, common_steps)
 
-pub stored_none : (σ : State) (xs : List Install) (S : Setting) → Stored S σ 0 xs
-stored_none σ [] S = 0
-stored_none σ (x ∷ xs) S = (omega arith, refl)
+pub stored_none : (σ : State) (xs : List Install) (G : Ground) → Stored G σ 0 xs
+stored_none σ [] G = 0
+stored_none σ (x ∷ xs) G = (omega arith, refl)
 
-module _ (S : Setting) (L : Lawful S) where
-  pub knows_all : (σ τ : State) (w : ℕ) (p : Phase) → Inv S σ → Keeps S σ τ w → Knows S τ w p → (v : ℕ) → Knows S τ v (upd σ.workers w p v)
-  knows_all σ τ w p inv k kn v = by_upd (λ x. Knows S τ v x) σ.workers w p v (λ e. rw e kn) (λ n. knows_kept S σ τ w k v n (σ.workers v) (inv.knows v))
+module _ (G : Ground) (L : Lawful G) where
+  pub knows_all : (σ τ : State) (w : ℕ) (p : Phase) → Inv G σ → Keeps G σ τ w → Knows G τ w p → (v : ℕ) → Knows G τ v (upd σ.workers w p v)
+  knows_all σ τ w p inv k kn v = by_upd (λ x. Knows G τ v x) σ.workers w p v (λ e. rw e kn) (λ n. knows_kept G σ τ w k v n (σ.workers v) (inv.knows v))
 
   -- who may still close r holds it
-  pub pending_holds : (σ : State) (v u r : ℕ) → (p : Phase) → Knows S σ v p → pending p u r ≡ true → (σ.recs r).holder ≡ Some v
+  pub pending_holds : (σ : State) (v u r : ℕ) → (p : Phase) → Knows G σ v p → pending p u r ≡ true → (σ.recs r).holder ≡ Some v
   pending_holds σ v u r (Rest q) k h = absurd (true≢false (sym h))
   pending_holds σ v u r (Asking q reads) k h = absurd (true≢false (sym h))
   pending_holds σ v u r (Wanting q reads x) k h = absurd (true≢false (sym h))
@@ -48,7 +49,7 @@ module _ (S : Setting) (L : Lawful S) where
   pending_holds σ v u r (Refusing q todo) k h = absurd (true≢false (sym h))
 
   -- ---- lock ----
-  module _ (σ : State) (w q : ℕ) (reads : List Read) (answer : Answer) (locked : List Install) (y : Install) (todo : List Install) (inv : Inv S σ)
+  module _ (σ : State) (w q : ℕ) (reads : List Read) (answer : Answer) (locked : List Install) (y : Install) (todo : List Install) (inv : Inv G σ)
       (e : σ.workers w ≡ Locking q reads answer locked (y ∷ todo)) (free : (σ.recs y.rec).holder ≡ None) where
     abbrev lock_phase : Phase
     lock_phase = Locking q reads answer (locked ++ y ∷ []) todo
@@ -69,7 +70,7 @@ module _ (S : Setting) (L : Lawful S) where
     lock_settled r = by_upd (λ z. settled_by (upd σ.workers w lock_phase) z.holder r ≡ true → settled σ r ≡ true) σ.recs y.rec lock_rec r
         (λ i s. rw (i, free) refl) (λ n s. sym (settled_goes σ.workers w lock_phase (σ.recs r).holder r (rw e refl)) ∙ s)
 
-    lock_keeps : Keeps S σ lock_state w
+    lock_keeps : Keeps G σ lock_state w
     lock_keeps = record {
       next_up = omega arith;
       version = λ r v row h. h;
@@ -81,12 +82,12 @@ module _ (S : Setting) (L : Lawful S) where
       writes = λ u a. refl;
     }
 
-    pub lock_inv : Inv S lock_state
+    pub lock_inv : Inv G lock_state
     lock_inv =
-        let kn : Knows S σ w (Locking q reads answer locked (y ∷ todo)) = rw e at (inv.knows w) in
+        let kn : Knows G σ w (Locking q reads answer locked (y ∷ todo)) = rw e at (inv.knows w) in
         record {
           knows = knows_all σ lock_state w lock_phase inv lock_keeps (record {
-            reads_ok = reads_kept S σ lock_state w lock_keeps w q reads kn.reads_ok;
+            reads_ok = reads_kept G σ lock_state w lock_keeps w q reads kn.reads_ok;
             ends = rw append_assoc kn.ends;
             holds = λ r h. by_upd (λ z. z.holder ≡ Some w) σ.recs y.rec lock_rec r (λ i. refl) (λ n. elim (has_append r locked y h) [ inl a ↦ kn.holds r a | inr b ↦ absurd (n b) ]);
           });
@@ -102,11 +103,11 @@ module _ (S : Setting) (L : Lawful S) where
             | inr b ↦ inr (by_upd (λ x. pending x t r ≡ true) σ.workers w lock_phase (σ.log t).worker (λ i. rw (i, e) at b) (λ n. b))
           ];
           past = inv.past;
-          final = λ t d. final_kept S σ lock_state w lock_keeps t (omega (arith, (inv.past t (decided_lives (σ.log t).status d)).1)) refl (inv.final t d);
+          final = λ t d. final_kept G σ lock_state w lock_keeps t (omega (arith, (inv.past t (decided_lives (σ.log t).status d)).1)) refl (inv.final t d);
         }
 
   -- ---- store ----
-  module _ (σ : State) (w q t j : ℕ) (y : Install) (todo : List Install) (inv : Inv S σ)
+  module _ (σ : State) (w q t j : ℕ) (y : Install) (todo : List Install) (inv : Inv G σ)
       (e : σ.workers w ≡ Storing q t j (y ∷ todo)) (more : j < length y.row) where
     abbrev store_phase : Phase
     store_phase = Storing q t (suc j) (y ∷ todo)
@@ -117,7 +118,7 @@ module _ (S : Setting) (L : Lawful S) where
     abbrev store_state : State
     store_state = sets σ y.rec store_rec w store_phase
 
-    store_knows : Knows S σ w (Storing q t j (y ∷ todo))
+    store_knows : Knows G σ w (Storing q t j (y ∷ todo))
     store_knows = rw e at (inv.knows w)
 
     store_held : (σ.recs y.rec).holder ≡ Some w
@@ -138,7 +139,7 @@ module _ (S : Setting) (L : Lawful S) where
     store_elsewhere : (r : ℕ) → settled σ r ≡ true → store_state.recs r ≡ σ.recs r
     store_elsewhere r s = by_upd (λ z. z ≡ σ.recs r) σ.recs y.rec store_rec r (λ i. absurd (true≢false (sym (rw i at s) ∙ store_open))) (λ n. refl)
 
-    store_keeps : Keeps S σ store_state w
+    store_keeps : Keeps G σ store_state w
     store_keeps = record {
       next_up = omega arith;
       version = λ r v row h. h;
@@ -150,12 +151,12 @@ module _ (S : Setting) (L : Lawful S) where
       writes = λ u a. refl;
     }
 
-    store_width : (r : ℕ) → length (store_state.recs r).cells ≡ S.width r
-    store_width r = by_upd (λ z. length z.cells ≡ S.width r) σ.recs y.rec store_rec r (λ i. rw length-set (rw (← i) (inv.width_is r))) (λ n. inv.width_is r)
+    store_width : (r : ℕ) → length (store_state.recs r).cells ≡ G.width r
+    store_width r = by_upd (λ z. length z.cells ≡ G.width r) σ.recs y.rec store_rec r (λ i. rw length-set (rw (← i) (inv.width_is r))) (λ n. inv.width_is r)
 
-    pub store_inv : Inv S store_state
+    pub store_inv : Inv G store_state
     store_inv =
-        let kn : Knows S σ w (Storing q t j (y ∷ todo)) = rw e at (inv.knows w) in
+        let kn : Knows G σ w (Storing q t j (y ∷ todo)) = rw e at (inv.knows w) in
         record {
           knows = knows_all σ store_state w store_phase inv store_keeps (record {
             worker = kn.worker;
@@ -178,11 +179,11 @@ module _ (S : Setting) (L : Lawful S) where
             | inr b ↦ inr (by_upd (λ x. pending x t r ≡ true) σ.workers w store_phase (σ.log t).worker (λ i. rw (i, e) at b) (λ n. b))
           ];
           past = inv.past;
-          final = λ t d. final_kept S σ store_state w store_keeps t (omega (arith, (inv.past t (decided_lives (σ.log t).status d)).1)) refl (inv.final t d);
+          final = λ t d. final_kept G σ store_state w store_keeps t (omega (arith, (inv.past t (decided_lives (σ.log t).status d)).1)) refl (inv.final t d);
         }
 
   -- ---- the closing store of a refused attempt ----
-  module _ (σ : State) (w q : ℕ) (y : Install) (todo : List Install) (inv : Inv S σ) (e : σ.workers w ≡ Refusing q (y ∷ todo)) where
+  module _ (σ : State) (w q : ℕ) (y : Install) (todo : List Install) (inv : Inv G σ) (e : σ.workers w ≡ Refusing q (y ∷ todo)) where
     abbrev free_phase : Phase
     free_phase = Refusing q todo
 
@@ -193,7 +194,7 @@ module _ (S : Setting) (L : Lawful S) where
     free_state = sets σ y.rec free_rec w free_phase
 
     free_held : (σ.recs y.rec).holder ≡ Some w
-    free_held = let kn : Knows S σ w (Refusing q (y ∷ todo)) = rw e at (inv.knows w) in kn.holds y.rec (rw (eq-eqb y.rec y.rec refl) refl)
+    free_held = let kn : Knows G σ w (Refusing q (y ∷ todo)) = rw e at (inv.knows w) in kn.holds y.rec (rw (eq-eqb y.rec y.rec refl) refl)
 
     free_stamp : (r : ℕ) → (free_state.recs r).stamp ≡ (σ.recs r).stamp
     free_stamp r = by_upd (λ z. z.stamp ≡ (σ.recs r).stamp) σ.recs y.rec free_rec r (λ i. rw i refl) (λ n. refl)
@@ -205,7 +206,7 @@ module _ (S : Setting) (L : Lawful S) where
     free_settled r = by_upd (λ z. settled_by (upd σ.workers w free_phase) z.holder r ≡ true → settled σ r ≡ true) σ.recs y.rec free_rec r
         (λ i s. rw (i, free_held, e) refl) (λ n s. sym (settled_goes σ.workers w free_phase (σ.recs r).holder r (rw e refl)) ∙ s)
 
-    free_keeps : Keeps S σ free_state w
+    free_keeps : Keeps G σ free_state w
     free_keeps = record {
       next_up = omega arith;
       version = λ r v row h. h;
@@ -217,9 +218,9 @@ module _ (S : Setting) (L : Lawful S) where
       writes = λ u a. refl;
     }
 
-    pub free_inv : Inv S free_state
+    pub free_inv : Inv G free_state
     free_inv =
-        let kn : Knows S σ w (Refusing q (y ∷ todo)) = rw e at (inv.knows w) in
+        let kn : Knows G σ w (Refusing q (y ∷ todo)) = rw e at (inv.knows w) in
         record {
           knows = knows_all σ free_state w free_phase inv free_keeps (record {
             holds = λ r h. by_upd (λ z. z.holder ≡ Some w) σ.recs y.rec free_rec r (λ i. absurd (true≢false (sym (rw i at h) ∙ kn.distinct.0))) (λ n. kn.holds r (rw (ne_eqb r y.rec n) h));
@@ -237,11 +238,11 @@ module _ (S : Setting) (L : Lawful S) where
             | inr b ↦ inr (by_upd (λ x. pending x t r ≡ true) σ.workers w free_phase (σ.log t).worker (λ i. rw (i, e) at b) (λ n. b))
           ];
           past = inv.past;
-          final = λ t d. final_kept S σ free_state w free_keeps t (omega (arith, (inv.past t (decided_lives (σ.log t).status d)).1)) refl (inv.final t d);
+          final = λ t d. final_kept G σ free_state w free_keeps t (omega (arith, (inv.past t (decided_lives (σ.log t).status d)).1)) refl (inv.final t d);
         }
 
   -- ---- the closing store of a decided attempt ----
-  module _ (σ : State) (w q t j : ℕ) (y : Install) (todo : List Install) (inv : Inv S σ)
+  module _ (σ : State) (w q t j : ℕ) (y : Install) (todo : List Install) (inv : Inv G σ)
       (e : σ.workers w ≡ Storing q t j (y ∷ todo)) (whole : length y.row ≤ j) where
     abbrev close_phase : Phase
     close_phase = Storing q t 0 todo
@@ -252,7 +253,7 @@ module _ (S : Setting) (L : Lawful S) where
     abbrev close_state : State
     close_state = sets σ y.rec close_rec w close_phase
 
-    close_knows : Knows S σ w (Storing q t j (y ∷ todo))
+    close_knows : Knows G σ w (Storing q t j (y ∷ todo))
     close_knows = rw e at (inv.knows w)
 
     close_first : has y.rec (y ∷ todo) ≡ true
@@ -274,7 +275,7 @@ module _ (S : Setting) (L : Lawful S) where
     close_settled : (r : ℕ) → r ≢ y.rec → settled close_state r ≡ settled σ r
     close_settled r n = ap (λ z. settled_by (upd σ.workers w close_phase) z.holder r) (close_elsewhere r n) ∙ settled_goes σ.workers w close_phase (σ.recs r).holder r (rw (e, ne_eqb r y.rec n) refl)
 
-    close_keeps : Keeps S σ close_state w
+    close_keeps : Keeps G σ close_state w
     close_keeps = record {
       next_up = omega arith;
       version = λ r v row h. h;
@@ -292,7 +293,7 @@ module _ (S : Setting) (L : Lawful S) where
         close_stays : (r : ℕ) → r ≡ y.rec → (close_state.recs r).stamp ≡ (σ.recs r).stamp → ⊥
         close_stays r i = rw (i, upd_same σ.recs y.rec close_rec) (λ c. omega (arith, close_below))
 
-    close_content : Version S σ y.rec t (σ.recs y.rec).cells
+    close_content : Version G σ y.rec t (σ.recs y.rec).cells
     close_content =
         let kn = close_knows in
         let here : row_at y.rec (y ∷ todo) ≡ Some y.row = rw (eq-eqb y.rec y.rec refl) refl in
@@ -311,7 +312,7 @@ module _ (S : Setting) (L : Lawful S) where
       | inr b ↦ omega (arith, close_last u r i b)
     ])
 
-    pub close_inv : Inv S close_state
+    pub close_inv : Inv G close_state
     close_inv =
         let kn = close_knows in
         record {
@@ -324,12 +325,12 @@ module _ (S : Setting) (L : Lawful S) where
             past = kn.past;
             distinct = kn.distinct.1;
             widths = kn.widths.1;
-            stored = stored_none close_state todo S;
+            stored = stored_none close_state todo G;
           });
           owner = λ r v. by_upd (λ z. z.holder ≡ Some v → held (upd σ.workers w close_phase v) r ≡ true) σ.recs y.rec close_rec r
               (λ i h. absurd (none_some v h))
               (λ n h. by_upd (λ z. held z r ≡ true) σ.workers w close_phase v (λ i. rw (i, e, ne_eqb r y.rec n) at (inv.owner r v h)) (λ m. inv.owner r v h));
-          width_is = λ r. by_upd (λ z. length z.cells ≡ S.width r) σ.recs y.rec close_rec r (λ i. rw (← i) (inv.width_is r)) (λ n. inv.width_is r);
+          width_is = λ r. by_upd (λ z. length z.cells ≡ G.width r) σ.recs y.rec close_rec r (λ i. rw (← i) (inv.width_is r)) (λ n. inv.width_is r);
           based = inv.based;
           fresh = λ r. by_upd (λ z. z.stamp < σ.next) σ.recs y.rec close_rec r (λ i. kn.past) (λ n. inv.fresh r);
           content = λ r s. elim (eqb_tells r y.rec) [
@@ -344,5 +345,5 @@ module _ (S : Setting) (L : Lawful S) where
             ]
           ];
           past = inv.past;
-          final = λ t d. final_kept S σ close_state w close_keeps t (omega (arith, (inv.past t (decided_lives (σ.log t).status d)).1)) refl (inv.final t d);
+          final = λ t d. final_kept G σ close_state w close_keeps t (omega (arith, (inv.past t (decided_lives (σ.log t).status d)).1)) refl (inv.final t d);
         }

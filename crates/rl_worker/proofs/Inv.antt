@@ -1,7 +1,7 @@
 -- What holds between any two acts.
 use Rattle.std.proofs.Common.{◌≡◌, ◌⊎◌, ℕ, ◌<◌, ◌≤◌, List, [], ◌∷◌, ◌++◌, length, take, Bool, true, false, not, ◌==◌, ◌&&◌, Option, Some, None}
-use Rattle.rl_worker.proofs.States.{Answer, Read, Install, Status, Drawn, Ends, Phase, Rest, Asking, Wanting, Loading, Locking, Validating, Storing, Refusing, State, Setting, has, row_at, live, decided}
-pub use Rattle.rl_worker.proofs.OwnLaw.{Distinct, Widths}
+use Rattle.rl_worker.proofs.States.{Answer, Read, Install, Status, Drawn, Ends, Phase, Rest, Asking, Wanting, Loading, Locking, Validating, Storing, Refusing, State, has, row_at, live, decided}
+pub use Rattle.rl_worker.proofs.OwnLaw.{Ground, Distinct, Widths}
 
 -- what a phase holds
 abbrev pub held : Phase → ℕ → Bool
@@ -44,11 +44,11 @@ settled_by ws (Some w) r = not (stores (ws w) r)
 abbrev pub settled : State → ℕ → Bool
 settled σ r = settled_by σ.workers (σ.recs r).holder r
 
-module _ (S : Setting) where
+module _ (G : Ground) where
   -- the row is the one that the stamp v stands for on r
   abbrev pub Version : State → (r v : ℕ) → List ℕ → Type 0
   Version σ r v row =
-      ((v ≡ (S.start r).stamp) × (row ≡ (S.start r).cells)) ⊎ ((decided (σ.log v).status ≡ true) × (row_at r (σ.log v).writes ≡ Some row))
+      ((v ≡ (G.start r).stamp) × (row ≡ (G.start r).cells)) ⊎ ((decided (σ.log v).status ≡ true) × (row_at r (σ.log v).writes ≡ Some row))
 
   -- no stamp between v and t that may count writes r
   abbrev pub Alone : State → (t r v : ℕ) → Type 0
@@ -92,18 +92,18 @@ module _ (S : Setting) where
   pub record LoadingOk (σ : State) (w q : ℕ) (reads : List Read) (r seen : ℕ) (loaded : List ℕ) : Type 0 where
     pub reads_ok : ReadsOk σ w q reads
     pub open_ok : OpenRead σ r seen loaded
-    pub short : length loaded ≤ S.width r
+    pub short : length loaded ≤ G.width r
 
   pub record LockingOk (σ : State) (w q : ℕ) (reads : List Read) (answer : Answer) (locked todo : List Install) : Type 0 where
     pub reads_ok : ReadsOk σ w q reads
-    pub ends : S.ask w q reads ≡ Ends answer (locked ++ todo)
+    pub ends : G.setting.ask w q reads ≡ Ends answer (locked ++ todo)
     pub holds : Holds σ w locked
 
   pub record ValidatingOk (σ : State) (w q t : ℕ) (done todo : List Read) (answer : Answer) (writes : List Install) : Type 0 where
     pub logged : Logged σ w q t (done ++ todo) answer writes Drawn
     pub seen : Seen σ t (done ++ todo)
     pub alone : AllAlone σ t done
-    pub ends : S.ask w q (done ++ todo) ≡ Ends answer writes
+    pub ends : G.setting.ask w q (done ++ todo) ≡ Ends answer writes
     pub holds : Holds σ w writes
     pub below : Below σ t writes
     pub past : t < σ.next
@@ -116,7 +116,7 @@ module _ (S : Setting) where
     pub below : Below σ t todo
     pub past : t < σ.next
     pub distinct : Distinct todo
-    pub widths : Widths S todo
+    pub widths : Widths G todo
     pub stored : Stored σ j todo
 
   pub record RefusingOk (σ : State) (w : ℕ) (todo : List Install) : Type 0 where
@@ -138,15 +138,15 @@ module _ (S : Setting) where
   pub record Final (σ : State) (t : ℕ) : Type 0 where
     pub seen : Seen σ t (σ.log t).reads
     pub alone : AllAlone σ t (σ.log t).reads
-    pub ends : S.ask (σ.log t).worker (σ.log t).index (σ.log t).reads ≡ Ends (σ.log t).answer (σ.log t).writes
+    pub ends : G.setting.ask (σ.log t).worker (σ.log t).index (σ.log t).reads ≡ Ends (σ.log t).answer (σ.log t).writes
 
   pub record Inv (σ : State) : Type 0 where
     pub knows : (w : ℕ) → Knows σ w (σ.workers w)
     pub owner : (r w : ℕ) → (σ.recs r).holder ≡ Some w → held (σ.workers w) r ≡ true
-    pub width_is : (r : ℕ) → length (σ.recs r).cells ≡ S.width r
-    pub based : S.base ≤ σ.next
+    pub width_is : (r : ℕ) → length (σ.recs r).cells ≡ G.width r
+    pub based : G.setting.base ≤ σ.next
     pub fresh : (r : ℕ) → (σ.recs r).stamp < σ.next
     pub content : (r : ℕ) → settled σ r ≡ true → Version σ r (σ.recs r).stamp (σ.recs r).cells
     pub drawn : (t r : ℕ) → live (σ.log t).status ≡ true → has r (σ.log t).writes ≡ true → (t ≤ (σ.recs r).stamp) ⊎ (pending (σ.workers (σ.log t).worker) t r ≡ true)
-    pub past : (t : ℕ) → live (σ.log t).status ≡ true → (S.base ≤ t) × (t < σ.next)
+    pub past : (t : ℕ) → live (σ.log t).status ≡ true → (G.setting.base ≤ t) × (t < σ.next)
     pub final : (t : ℕ) → decided (σ.log t).status ≡ true → Final σ t

@@ -1,5 +1,5 @@
-pub mod Acts
 pub mod Basics
+pub mod CodeItems
 pub mod Commits
 pub mod Cores
 pub mod Endings

@@ -6,16 +6,17 @@ use Rattle.rl_worker.proofs.Installs.{none_some}
 use Rattle.rl_worker.proofs.Inv.{held, Distinct}
 use Rattle.std.proofs.lemmas.Bool.Decides.{eqb_tells}
 use mathlib.Core.Path.{fun_ext}
-use Rattle.rl_worker.proofs.States.{Answer, Read, Install, Rec, Void, Drawn, Decided, Entry, Ends, Phase, Rest, Asking, Wanting, Loading, Locking, Validating, Storing, Refusing, State, Setting, upd, has, with_read, goes, sets, asked, other}
-use Rattle.rl_worker.specs.Items.{place}
-use Rattle.rl_worker.specs.Acts.{IsTrueCause, AllTrue, Cause, Locked, Changed, Event, Quiet, Drew, Won, Lost, LostDrawn, quiet, lost, lost_drawn, first_load_of, confirm_of, lock_of, moved, Core, no_rec, next_after, decided_after, refusals_after, after, micro_at}
-use Rattle.rl_worker.proofs.Basics.{upd_same, upd_other, by_upd}
+use Rattle.rl_worker.proofs.States.{Answer, Read, Install, Rec, Void, Drawn, Decided, Entry, Ends, Phase, Rest, Asking, Wanting, Loading, Locking, Validating, Storing, Refusing, State, upd, has, with_read, goes, sets, asked, other}
+use Rattle.rl_worker.specs.Items.{insert_by_stamp}
+use Rattle.rl_worker.specs.Laws.{IsTrueCause, AllTrue}
+use Rattle.rl_worker.specs.Acts.{Cause, Locked, Changed, Effect, Quiet, Drew, Won, Lost, quiet, lost, first_load_of, confirm_of, lock_of, act_result, Core, no_rec, next_after, decided_after, refusals_after, core_after_act, micro_at}
+use Rattle.rl_worker.proofs.Basics.{upd_same, upd_other, by_upd, by_test, test_lt, test_ge}
 use Rattle.rl_worker.proofs.Inv.{Inv, Knows}
 use Rattle.rl_worker.proofs.Local.{Lawful, begin_inv, give_up_inv, give_up_load_inv, ask_inv, first_load_inv, column_load_inv, confirm_inv, lock_refused_inv, validate_inv, rest_inv, released_inv}
 use Rattle.rl_worker.proofs.Installs.{lock_inv, store_inv, free_inv, close_inv}
 use Rattle.rl_worker.proofs.Stamps.{alone_now, draw_inv, decide_inv, void_inv}
-use Rattle.rl_worker.proofs.Acts.{by_test, test_lt, test_ge}
 use Rattle.rl_worker.proofs.Serial.{item, items_from, items_decided, items_drawn, items_voided}
+use Rattle.rl_worker.proofs.OwnLaw.{Ground}
 
 abbrev pub lift : Core → (ℕ → Entry) → State
 lift c log = record { recs = λ r. get_or c.recs r no_rec; workers = λ w. get_or c.workers w (Rest 0); log = log; next = c.next }
@@ -55,17 +56,17 @@ pub has_middle_at : (zs : List Install) (z : Install) (us : List Install) → ha
 has_middle_at [] z us = rw (eq-eqb z.rec z.rec refl) refl
 has_middle_at (u ∷ zs) z us = elim (eqb_tells z.rec u.rec) [ inl t ↦ rw t.0 refl | inr t ↦ rw t.0 (has_middle_at zs z us) ]
 
-module _ (S : Setting) where
+module _ (G : Ground) where
   pub record Good (c : Core) : Type 0 where
     pub log : ℕ → Entry
     pub count : ℕ
-    pub count_is : S.base + count ≡ c.next
-    pub inv : Inv S (lift c log)
-    pub items : c.decided ≡ items_from log S.base count
-    pub inside : (w q : ℕ) (reads : List Read) (answer : Answer) (writes : List Install) → S.ask w q reads ≡ Ends answer writes → (r : ℕ) → has r writes ≡ true → r < length c.recs
+    pub count_is : G.setting.base + count ≡ c.next
+    pub inv : Inv G (lift c log)
+    pub items : c.decided ≡ items_from log G.setting.base count
+    pub inside : (w q : ℕ) (reads : List Read) (answer : Answer) (writes : List Install) → G.setting.ask w q reads ≡ Ends answer writes → (r : ℕ) → has r writes ≡ true → r < length c.recs
     pub causes : AllTrue c.refusals
 
-  module _ (L : Lawful S) (c : Core) (g : Good c) (w : ℕ) (hw : w < length c.workers) where
+  module _ (L : Lawful G) (c : Core) (g : Good c) (w : ℕ) (hw : w < length c.workers) where
     abbrev σ : State
     σ = lift c g.log
 
@@ -75,15 +76,15 @@ module _ (S : Setting) where
       | inr e ↦ rw (e, set_back c.recs k no_rec, upd_back σ.recs k) refl
     ]
 
-    good_of : (k : ℕ) (x : Rec) (p : Phase) (ev : Event) → (k < length c.recs) ⊎ (x ≡ get_or c.recs k no_rec) → (log : ℕ → Entry) (count : ℕ)
-        → Inv S (record { recs = upd σ.recs k x; workers = upd σ.workers w p; log = log; next = next_after c.next ev })
-        → S.base + count ≡ next_after c.next ev → decided_after c.decided ev ≡ items_from log S.base count → AllTrue (refusals_after c.refusals ev)
-        → Good (after c w k (record { phase = p; rec = x; event = ev }))
+    good_of : (k : ℕ) (x : Rec) (p : Phase) (ev : Effect) → (k < length c.recs) ⊎ (x ≡ get_or c.recs k no_rec) → (log : ℕ → Entry) (count : ℕ)
+        → Inv G (record { recs = upd σ.recs k x; workers = upd σ.workers w p; log = log; next = next_after c.next ev })
+        → G.setting.base + count ≡ next_after c.next ev → decided_after c.decided ev ≡ items_from log G.setting.base count → AllTrue (refusals_after c.refusals ev)
+        → Good (core_after_act c w k (record { phase = p; rec = x; effect = ev }))
     good_of k x p ev h log count i n d t = record {
       log = log;
       count = count;
       count_is = n;
-      inv = subst (Inv S) (sym (same_state (lift (after c w k (record { phase = p; rec = x; event = ev })) log) (record { recs = upd σ.recs k x; workers = upd σ.workers w p; log = log; next = next_after c.next ev })
+      inv = subst (Inv G) (sym (same_state (lift (core_after_act c w k (record { phase = p; rec = x; effect = ev })) log) (record { recs = upd σ.recs k x; workers = upd σ.workers w p; log = log; next = next_after c.next ev })
           (recs_path k x h) (set_reads c.workers w p (Rest 0) hw) refl refl)) i;
       items = d;
       inside = λ v q given answer writes e r m. rw length-set (g.inside v q given answer writes e r m);
@@ -91,13 +92,13 @@ module _ (S : Setting) where
     }
 
     -- the acts that leave the records
-    local_good : (k : ℕ) (p : Phase) → Inv S (goes σ w p) → Good (after c w k (quiet (get_or c.recs k no_rec) p))
+    local_good : (k : ℕ) (p : Phase) → Inv G (goes σ w p) → Good (core_after_act c w k (quiet (get_or c.recs k no_rec) p))
     local_good k p i = good_of k (get_or c.recs k no_rec) p Quiet (inr refl) g.log g.count (rw (upd_back σ.recs k) i) g.count_is g.items g.causes
 
-    lost_good : (q k : ℕ) (p : Phase) (cause : Cause) → IsTrueCause w cause → Inv S (goes σ w p) → Good (after c w k (lost (get_or c.recs k no_rec) p w q k cause))
+    lost_good : (q k : ℕ) (p : Phase) (cause : Cause) → IsTrueCause w cause → Inv G (goes σ w p) → Good (core_after_act c w k (lost (get_or c.recs k no_rec) p w q k cause))
     lost_good q k p cause t i = good_of k (get_or c.recs k no_rec) p (Lost (record { worker = w; index = q; rec = k; cause = cause })) (inr refl) g.log g.count (rw (upd_back σ.recs k) i) g.count_is g.items (t, g.causes)
 
-    sets_good : (k : ℕ) (x : Rec) (p : Phase) → k < length c.recs → Inv S (sets σ k x w p) → Good (after c w k (quiet x p))
+    sets_good : (k : ℕ) (x : Rec) (p : Phase) → k < length c.recs → Inv G (sets σ k x w p) → Good (core_after_act c w k (quiet x p))
     sets_good k x p h i = good_of k x p Quiet (inl h) g.log g.count i g.count_is g.items g.causes
 
     -- the holder of a record that w does not hold is another worker
@@ -108,85 +109,85 @@ module _ (S : Setting) where
     ]
 
     first_load_good : (q : ℕ) (reads : List Read) (r : ℕ) → σ.workers w ≡ Wanting q reads r → (h : Option ℕ) → (get_or c.recs r no_rec).holder ≡ h
-        → Good (after c w r (first_load_of w q reads r (get_or c.recs r no_rec) h))
-    first_load_good q reads r e None f = local_good r (Loading q reads r (σ.recs r).stamp []) (first_load_inv S L σ w q r reads g.inv e)
-    first_load_good q reads r e (Some v) f = lost_good q r (Rest q) (Locked (Some v) (σ.recs r).stamp) (other_holder r v f (rw e refl)) (give_up_inv S L σ w q r reads g.inv e)
+        → Good (core_after_act c w r (first_load_of w q reads r (get_or c.recs r no_rec) h))
+    first_load_good q reads r e None f = local_good r (Loading q reads r (σ.recs r).stamp []) (first_load_inv G L σ w q r reads g.inv e)
+    first_load_good q reads r e (Some v) f = lost_good q r (Rest q) (Locked (Some v) (σ.recs r).stamp) (other_holder r v f (rw e refl)) (give_up_inv G L σ w q r reads g.inv e)
 
     confirm_good : (q : ℕ) (reads : List Read) (r seen : ℕ) (loaded : List ℕ) → σ.workers w ≡ Loading q reads r seen loaded → length (σ.recs r).cells ≤ length loaded
-        → (h : Option ℕ) → (get_or c.recs r no_rec).holder ≡ h → Good (after c w r (confirm_of w q reads r seen loaded (get_or c.recs r no_rec) h))
-    confirm_good q reads r seen loaded e long None f = by_test (λ z. Good (after c w r z)) ((σ.recs r).stamp == seen) _ _
-        (λ t. local_good r (Asking q (with_read (record { rec = r; seen = seen; row = loaded }) reads)) (confirm_inv S L σ w q r seen reads loaded g.inv e long f (eqb-true (σ.recs r).stamp seen t)))
-        (λ t. lost_good q r (Rest q) (Changed None seen (σ.recs r).stamp) (refl, λ i. true≢false (sym (eq-eqb (σ.recs r).stamp seen i) ∙ t)) (give_up_load_inv S L σ w q r seen reads loaded g.inv e))
-    confirm_good q reads r seen loaded e long (Some v) f = lost_good q r (Rest q) (Locked (Some v) (σ.recs r).stamp) (other_holder r v f (rw e refl)) (give_up_load_inv S L σ w q r seen reads loaded g.inv e)
+        → (h : Option ℕ) → (get_or c.recs r no_rec).holder ≡ h → Good (core_after_act c w r (confirm_of w q reads r seen loaded (get_or c.recs r no_rec) h))
+    confirm_good q reads r seen loaded e long None f = by_test (λ z. Good (core_after_act c w r z)) ((σ.recs r).stamp == seen) _ _
+        (λ t. local_good r (Asking q (with_read (record { rec = r; seen = seen; row = loaded }) reads)) (confirm_inv G L σ w q r seen reads loaded g.inv e long f (eqb-true (σ.recs r).stamp seen t)))
+        (λ t. lost_good q r (Rest q) (Changed None seen (σ.recs r).stamp) (refl, λ i. true≢false (sym (eq-eqb (σ.recs r).stamp seen i) ∙ t)) (give_up_load_inv G L σ w q r seen reads loaded g.inv e))
+    confirm_good q reads r seen loaded e long (Some v) f = lost_good q r (Rest q) (Locked (Some v) (σ.recs r).stamp) (other_holder r v f (rw e refl)) (give_up_load_inv G L σ w q r seen reads loaded g.inv e)
 
     lock_good : (q : ℕ) (reads : List Read) (answer : Answer) (locked : List Install) (y : Install) (todo : List Install) → σ.workers w ≡ Locking q reads answer locked (y ∷ todo)
-        → (h : Option ℕ) → (get_or c.recs y.rec no_rec).holder ≡ h → Good (after c w y.rec (lock_of w q reads answer locked y todo (get_or c.recs y.rec no_rec) h))
+        → (h : Option ℕ) → (get_or c.recs y.rec no_rec).holder ≡ h → Good (core_after_act c w y.rec (lock_of w q reads answer locked y todo (get_or c.recs y.rec no_rec) h))
     lock_good q reads answer locked y todo e h f =
-        let kn : Knows S σ w (Locking q reads answer locked (y ∷ todo)) = rw e at (g.inv.knows w) in
-        elim h as (λ z. (get_or c.recs y.rec no_rec).holder ≡ z → Good (after c w y.rec (lock_of w q reads answer locked y todo (get_or c.recs y.rec no_rec) z))) [
+        let kn : Knows G σ w (Locking q reads answer locked (y ∷ todo)) = rw e at (g.inv.knows w) in
+        elim h as (λ z. (get_or c.recs y.rec no_rec).holder ≡ z → Good (core_after_act c w y.rec (lock_of w q reads answer locked y todo (get_or c.recs y.rec no_rec) z))) [
           | None ↦ (λ n. sets_good y.rec (record { stamp = (σ.recs y.rec).stamp; holder = Some w; cells = (σ.recs y.rec).cells }) (Locking q reads answer (locked ++ y ∷ []) todo)
-              (g.inside w q reads answer (locked ++ y ∷ todo) kn.ends y.rec (has_middle_at locked y todo)) (lock_inv S L σ w q reads answer locked y todo g.inv e n))
+              (g.inside w q reads answer (locked ++ y ∷ todo) kn.ends y.rec (has_middle_at locked y todo)) (lock_inv G L σ w q reads answer locked y todo g.inv e n))
           | Some v ↦ (λ n. lost_good q y.rec (Refusing q locked) (Locked (Some v) (σ.recs y.rec).stamp)
               (other_holder y.rec v n (rw e (distinct_middle locked y todo (L.ends_ok w q reads answer (locked ++ y ∷ todo) kn.ends).0)))
-              (lock_refused_inv S L σ w q reads answer locked (y ∷ todo) g.inv e))
+              (lock_refused_inv G L σ w q reads answer locked (y ∷ todo) g.inv e))
         ] f
 
     draw_good : (q : ℕ) (reads : List Read) (answer : Answer) (locked : List Install) → σ.workers w ≡ Locking q reads answer locked []
-        → Good (after c w 0 (record { phase = Validating q c.next [] reads answer locked; rec = get_or c.recs 0 no_rec; event = Drew reads answer locked }))
+        → Good (core_after_act c w 0 (record { phase = Validating q c.next [] reads answer locked; rec = get_or c.recs 0 no_rec; effect = Drew }))
     draw_good q reads answer locked e =
         let x : Entry = record { worker = w; index = q; reads = reads; answer = answer; writes = locked; status = Drawn } in
-        good_of 0 (get_or c.recs 0 no_rec) (Validating q c.next [] reads answer locked) (Drew reads answer locked) (inr refl)
-        (upd g.log c.next x) (suc g.count) (rw (upd_back σ.recs 0) (draw_inv S L σ w q reads answer locked g.inv e)) (omega (arith, g.count_is))
-        (g.items ∙ sym (items_drawn g.log c.next x g.count S.base refl g.count_is)) g.causes
+        good_of 0 (get_or c.recs 0 no_rec) (Validating q c.next [] reads answer locked) Drew (inr refl)
+        (upd g.log c.next x) (suc g.count) (rw (upd_back σ.recs 0) (draw_inv G L σ w q reads answer locked g.inv e)) (omega (arith, g.count_is))
+        (g.items ∙ sym (items_drawn g.log c.next x g.count G.setting.base refl g.count_is)) g.causes
 
     win_good : (q t : ℕ) (done : List Read) (answer : Answer) (writes : List Install) → σ.workers w ≡ Validating q t done [] answer writes
-        → Good (after c w 0 (moved S w c.next (Validating q t done [] answer writes) (get_or c.recs 0 no_rec)))
+        → Good (core_after_act c w 0 (act_result G.setting w c.next (Validating q t done [] answer writes) (get_or c.recs 0 no_rec)))
     win_good q t done answer writes e =
-        let kn : Knows S σ w (Validating q t done [] answer writes) = rw e at (g.inv.knows w) in
-        let past : (S.base ≤ t) × (t < c.next) = g.inv.past t (rw kn.logged refl) in
+        let kn : Knows G σ w (Validating q t done [] answer writes) = rw e at (g.inv.knows w) in
+        let past : (G.setting.base ≤ t) × (t < c.next) = g.inv.past t (rw kn.logged refl) in
         let is : item t (g.log t) ≡ record { stamp = t; worker = w; index = q; answer = answer; writes = writes } = ap (λ (z : Entry). item t z) kn.logged in
         good_of 0 (get_or c.recs 0 no_rec) (Storing q t 0 writes) (Won (record { stamp = t; worker = w; index = q; answer = answer; writes = writes })) (inr refl)
-        (upd g.log t (record (g.log t) { status = Decided })) g.count (rw (upd_back σ.recs 0) (decide_inv S L σ w q t done answer writes g.inv e)) g.count_is
-        (ap (place (record { stamp = t; worker = w; index = q; answer = answer; writes = writes })) g.items
-        ∙ ap (λ z. place z (items_from g.log S.base g.count)) (sym is)
-        ∙ sym (items_decided g.log t g.count S.base (rw kn.logged refl) past.0 (omega (arith, g.count_is, past.1)))) g.causes
+        (upd g.log t (record (g.log t) { status = Decided })) g.count (rw (upd_back σ.recs 0) (decide_inv G L σ w q t done answer writes g.inv e)) g.count_is
+        (ap (insert_by_stamp (record { stamp = t; worker = w; index = q; answer = answer; writes = writes })) g.items
+        ∙ ap (λ z. insert_by_stamp z (items_from g.log G.setting.base g.count)) (sym is)
+        ∙ sym (items_decided g.log t g.count G.setting.base (rw kn.logged refl) past.0 (omega (arith, g.count_is, past.1)))) g.causes
 
     lose_good : (q t : ℕ) (done : List Read) (y : Read) (todo : List Read) (answer : Answer) (writes : List Install) (cause : Cause) → IsTrueCause w cause
         → σ.workers w ≡ Validating q t done (y ∷ todo) answer writes
-        → Good (after c w y.rec (lost_drawn (get_or c.recs y.rec no_rec) (Refusing q writes) t w q y.rec cause))
+        → Good (core_after_act c w y.rec (lost (get_or c.recs y.rec no_rec) (Refusing q writes) w q y.rec cause))
     lose_good q t done y todo answer writes cause true_ e =
-        let kn : Knows S σ w (Validating q t done (y ∷ todo) answer writes) = rw e at (g.inv.knows w) in
-        good_of y.rec (get_or c.recs y.rec no_rec) (Refusing q writes) (LostDrawn t (record { worker = w; index = q; rec = y.rec; cause = cause })) (inr refl)
-        (upd g.log t (record (g.log t) { status = Void })) g.count (rw (upd_back σ.recs y.rec) (void_inv S L σ w q t done (y ∷ todo) answer writes g.inv e)) g.count_is
-        (g.items ∙ sym (items_voided g.log t g.count S.base (rw kn.logged refl))) (true_, g.causes)
+        let kn : Knows G σ w (Validating q t done (y ∷ todo) answer writes) = rw e at (g.inv.knows w) in
+        good_of y.rec (get_or c.recs y.rec no_rec) (Refusing q writes) (Lost (record { worker = w; index = q; rec = y.rec; cause = cause })) (inr refl)
+        (upd g.log t (record (g.log t) { status = Void })) g.count (rw (upd_back σ.recs y.rec) (void_inv G L σ w q t done (y ∷ todo) answer writes g.inv e)) g.count_is
+        (g.items ∙ sym (items_voided g.log t g.count G.setting.base (rw kn.logged refl))) (true_, g.causes)
 
-    pub micro_good : (p : Phase) → σ.workers w ≡ p → Good (micro_at S c w p)
-    micro_good (Rest q) e = local_good 0 (Asking q []) (begin_inv S L σ w q g.inv e)
-    micro_good (Asking q reads) e = local_good 0 (asked q reads (S.ask w q reads)) (ask_inv S L σ w q reads g.inv e)
+    pub micro_good : (p : Phase) → σ.workers w ≡ p → Good (micro_at G.setting c w p)
+    micro_good (Rest q) e = local_good 0 (Asking q []) (begin_inv G L σ w q g.inv e)
+    micro_good (Asking q reads) e = local_good 0 (asked q reads (G.setting.ask w q reads)) (ask_inv G L σ w q reads g.inv e)
     micro_good (Wanting q reads r) e = first_load_good q reads r e (get_or c.recs r no_rec).holder refl
-    micro_good (Loading q reads r seen loaded) e = by_test (λ z. Good (after c w r z)) (nat_lt (length loaded) (length (σ.recs r).cells)) _ _
-        (λ t. local_good r (Loading q reads r seen (loaded ++ get_or (σ.recs r).cells (length loaded) 0 ∷ [])) (column_load_inv S L σ w q r seen reads loaded g.inv e (test_lt (length loaded) (length (σ.recs r).cells) t)))
+    micro_good (Loading q reads r seen loaded) e = by_test (λ z. Good (core_after_act c w r z)) (nat_lt (length loaded) (length (σ.recs r).cells)) _ _
+        (λ t. local_good r (Loading q reads r seen (loaded ++ get_or (σ.recs r).cells (length loaded) 0 ∷ [])) (column_load_inv G L σ w q r seen reads loaded g.inv e (test_lt (length loaded) (length (σ.recs r).cells) t)))
         (λ t. confirm_good q reads r seen loaded e (test_ge (length loaded) (length (σ.recs r).cells) t) (get_or c.recs r no_rec).holder refl)
     micro_good (Locking q reads answer locked (y ∷ todo)) e = lock_good q reads answer locked y todo e (get_or c.recs y.rec no_rec).holder refl
     micro_good (Locking q reads answer locked []) e = draw_good q reads answer locked e
-    micro_good (Validating q t done (y ∷ todo) answer writes) e = by_test (λ z. Good (after c w y.rec z)) (other w (σ.recs y.rec).holder) _ _
+    micro_good (Validating q t done (y ∷ todo) answer writes) e = by_test (λ z. Good (core_after_act c w y.rec z)) (other w (σ.recs y.rec).holder) _ _
         (λ f. lose_good q t done y todo answer writes (Locked (σ.recs y.rec).holder (σ.recs y.rec).stamp) f e)
-        (λ f. by_test (λ z. Good (after c w y.rec z)) ((σ.recs y.rec).stamp == y.seen) _ _
+        (λ f. by_test (λ z. Good (core_after_act c w y.rec z)) ((σ.recs y.rec).stamp == y.seen) _ _
         (λ s. local_good y.rec (Validating q t (done ++ y ∷ []) todo answer writes)
-        (validate_inv S L σ w q t done y todo answer writes g.inv e (alone_now S L σ w q t done y todo answer writes g.inv e f (eqb-true (σ.recs y.rec).stamp y.seen s))))
+        (validate_inv G L σ w q t done y todo answer writes g.inv e (alone_now G L σ w q t done y todo answer writes g.inv e f (eqb-true (σ.recs y.rec).stamp y.seen s))))
         (λ s. lose_good q t done y todo answer writes (Changed (σ.recs y.rec).holder y.seen (σ.recs y.rec).stamp) (f, λ i. true≢false (sym (eq-eqb (σ.recs y.rec).stamp y.seen i) ∙ s)) e))
     micro_good (Validating q t done [] answer writes) e = win_good q t done answer writes e
     micro_good (Storing q t j (y ∷ todo)) e =
-        let kn : Knows S σ w (Storing q t j (y ∷ todo)) = rw e at (g.inv.knows w) in
+        let kn : Knows G σ w (Storing q t j (y ∷ todo)) = rw e at (g.inv.knows w) in
         let here : y.rec < length c.recs = held_in c.recs y.rec w (kn.holds y.rec (rw (eq-eqb y.rec y.rec refl) refl)) in
-        by_test (λ z. Good (after c w y.rec z)) (nat_lt j (length y.row)) _ _
+        by_test (λ z. Good (core_after_act c w y.rec z)) (nat_lt j (length y.row)) _ _
         (λ s. sets_good y.rec (record { stamp = (σ.recs y.rec).stamp; holder = (σ.recs y.rec).holder; cells = set (σ.recs y.rec).cells j (get_or y.row j 0) }) (Storing q t (suc j) (y ∷ todo)) here
-        (store_inv S L σ w q t j y todo g.inv e (test_lt j (length y.row) s)))
+        (store_inv G L σ w q t j y todo g.inv e (test_lt j (length y.row) s)))
         (λ s. sets_good y.rec (record { stamp = t; holder = None; cells = (σ.recs y.rec).cells }) (Storing q t 0 todo) here
-        (close_inv S L σ w q t j y todo g.inv e (test_ge j (length y.row) s)))
-    micro_good (Storing q t j []) e = local_good 0 (Rest (suc q)) (rest_inv S L σ w q t j g.inv e)
+        (close_inv G L σ w q t j y todo g.inv e (test_ge j (length y.row) s)))
+    micro_good (Storing q t j []) e = local_good 0 (Rest (suc q)) (rest_inv G L σ w q t j g.inv e)
     micro_good (Refusing q (y ∷ todo)) e =
-        let kn : Knows S σ w (Refusing q (y ∷ todo)) = rw e at (g.inv.knows w) in
+        let kn : Knows G σ w (Refusing q (y ∷ todo)) = rw e at (g.inv.knows w) in
         let here : y.rec < length c.recs = held_in c.recs y.rec w (kn.holds y.rec (rw (eq-eqb y.rec y.rec refl) refl)) in
-        sets_good y.rec (record { stamp = (σ.recs y.rec).stamp; holder = None; cells = (σ.recs y.rec).cells }) (Refusing q todo) here (free_inv S L σ w q y todo g.inv e)
-    micro_good (Refusing q []) e = local_good 0 (Rest q) (released_inv S L σ w q g.inv e)
+        sets_good y.rec (record { stamp = (σ.recs y.rec).stamp; holder = None; cells = (σ.recs y.rec).cells }) (Refusing q todo) here (free_inv G L σ w q y todo g.inv e)
+    micro_good (Refusing q []) e = local_good 0 (Rest q) (released_inv G L σ w q g.inv e)

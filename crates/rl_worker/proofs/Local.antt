@@ -2,11 +2,11 @@
 use Rattle.std.proofs.Common.{◌≡◌, ℕ, suc, ◌<◌, ◌≤◌, List, [], ◌∷◌, ◌++◌, length, get_or, take, Bool, true, false, not, ◌==◌, nat_lt, ◌&&◌, if◌then◌else◌, Option, Some, None, refl, sym, ap, ◌∙◌, arith, inl, inr, true≢false, length-append, append_assoc}
 use Rattle.std.proofs.lemmas.Grind.{common_steps}
 use Rattle.std.proofs.lemmas.Bool.Decides.{eqb_tells}
-use Rattle.rl_worker.proofs.States.{Answer, Read, Install, Status, Void, Drawn, Decided, Outcome, Wants, Ends, Phase, Rest, Asking, Wanting, Loading, Locking, Validating, Storing, Refusing, State, Setting, upd, has, with_read, live, decided, goes, asked}
+use Rattle.rl_worker.proofs.States.{Answer, Read, Install, Status, Void, Drawn, Decided, Outcome, Wants, Ends, Phase, Rest, Asking, Wanting, Loading, Locking, Validating, Storing, Refusing, State, upd, has, with_read, live, decided, goes, asked}
 use Rattle.rl_worker.proofs.Inv.{held, stores, pending, settled_by, settled, Distinct, Version, Alone, Seen, AllAlone, ReadsOk, Knows, Inv}
 use Rattle.rl_worker.proofs.Basics.{by_upd}
 use Rattle.rl_worker.proofs.Keeps.{Keeps, knows_kept, final_kept}
-pub use Rattle.rl_worker.proofs.OwnLaw.{Lawful}
+pub use Rattle.rl_worker.proofs.OwnLaw.{Ground, Lawful}
 
 pub decided_lives : (s : Status) → decided s ≡ true → live s ≡ true
 decided_lives Void h = h
@@ -32,12 +32,12 @@ distinct_front (x ∷ xs) ys h = (front x.rec xs h.0, distinct_front xs ys h.1)
     front r [] n = refl
     front r (z ∷ zs) n = elim (eqb_tells r z.rec) [ inl t ↦ absurd (true≢false (rw t.0 at n)) | inr t ↦ rw t.0 (front r zs (rw t.0 at n)) ]
 
-module _ (S : Setting) (L : Lawful S) where
-  pub all_alone_snoc : (σ : State) (t : ℕ) (xs : List Read) (x : Read) → AllAlone S σ t xs → Alone S σ t x.rec x.seen → AllAlone S σ t (xs ++ x ∷ [])
+module _ (G : Ground) (L : Lawful G) where
+  pub all_alone_snoc : (σ : State) (t : ℕ) (xs : List Read) (x : Read) → AllAlone G σ t xs → Alone G σ t x.rec x.seen → AllAlone G σ t (xs ++ x ∷ [])
   all_alone_snoc σ t [] x h a = (a, 0)
   all_alone_snoc σ t (y ∷ xs) x h a = (h.0, all_alone_snoc σ t xs x h.1 a)
 
-  pub goes_keeps : (σ : State) (w : ℕ) (p : Phase) → ((r : ℕ) → stores p r ≡ stores (σ.workers w) r) → (z : ℕ) → Keeps S σ (goes σ w p) z
+  pub goes_keeps : (σ : State) (w : ℕ) (p : Phase) → ((r : ℕ) → stores p r ≡ stores (σ.workers w) r) → (z : ℕ) → Keeps G σ (goes σ w p) z
   goes_keeps σ w p st z = record {
     next_up = omega arith;
     version = λ r v row h. h;
@@ -49,15 +49,15 @@ module _ (S : Setting) (L : Lawful S) where
     writes = λ u a. refl;
   }
 
-  pub goes_inv : (σ : State) (w : ℕ) (p : Phase) → Inv S σ
+  pub goes_inv : (σ : State) (w : ℕ) (p : Phase) → Inv G σ
       → ((r : ℕ) → held (σ.workers w) r ≡ true → held p r ≡ true)
       → ((r : ℕ) → stores p r ≡ stores (σ.workers w) r)
       → ((u r : ℕ) → pending (σ.workers w) u r ≡ true → pending p u r ≡ true)
-      → Knows S σ w p → Inv S (goes σ w p)
+      → Knows G σ w p → Inv G (goes σ w p)
   goes_inv σ w p inv he st pe kn = record {
-    knows = λ v. by_upd (λ x. Knows S (goes σ w p) v x) σ.workers w p v
-        (λ e. rw e (knows_kept S σ (goes σ w p) (suc w) (goes_keeps σ w p st (suc w)) w (omega arith) p kn))
-        (λ n. knows_kept S σ (goes σ w p) w (goes_keeps σ w p st w) v n (σ.workers v) (inv.knows v));
+    knows = λ v. by_upd (λ x. Knows G (goes σ w p) v x) σ.workers w p v
+        (λ e. rw e (knows_kept G σ (goes σ w p) (suc w) (goes_keeps σ w p st (suc w)) w (omega arith) p kn))
+        (λ n. knows_kept G σ (goes σ w p) w (goes_keeps σ w p st w) v n (σ.workers v) (inv.knows v));
     owner = λ r v e. by_upd (λ x. held x r ≡ true) σ.workers w p v (λ i. he r (rw i at (inv.owner r v e))) (λ n. inv.owner r v e);
     width_is = inv.width_is;
     based = inv.based;
@@ -68,51 +68,51 @@ module _ (S : Setting) (L : Lawful S) where
       | inr b ↦ inr (by_upd (λ x. pending x t r ≡ true) σ.workers w p (σ.log t).worker (λ i. pe t r (rw i at b)) (λ n. b))
     ];
     past = inv.past;
-    final = λ t d. final_kept S σ (goes σ w p) w (goes_keeps σ w p st w) t (omega (arith, (inv.past t (decided_lives (σ.log t).status d)).1)) refl (inv.final t d);
+    final = λ t d. final_kept G σ (goes σ w p) w (goes_keeps σ w p st w) t (omega (arith, (inv.past t (decided_lives (σ.log t).status d)).1)) refl (inv.final t d);
   }
 
   -- from a phase that holds nothing to another
-  pub idle_inv : (σ : State) (w : ℕ) (p : Phase) → Inv S σ
+  pub idle_inv : (σ : State) (w : ℕ) (p : Phase) → Inv G σ
       → ((r : ℕ) → held (σ.workers w) r ≡ false)
       → ((r : ℕ) → stores p r ≡ false) → ((r : ℕ) → stores (σ.workers w) r ≡ false)
       → ((u r : ℕ) → pending (σ.workers w) u r ≡ false)
-      → Knows S σ w p → Inv S (goes σ w p)
+      → Knows G σ w p → Inv G (goes σ w p)
   idle_inv σ w p inv he st st2 pe kn =
       goes_inv σ w p inv (λ r h. absurd (true≢false (sym h ∙ he r))) (λ r. st r ∙ sym (st2 r)) (λ u r h. absurd (true≢false (sym h ∙ pe u r))) kn
 
-  pub begin_inv : (σ : State) (w q : ℕ) → Inv S σ → σ.workers w ≡ Rest q → Inv S (goes σ w (Asking q []))
+  pub begin_inv : (σ : State) (w q : ℕ) → Inv G σ → σ.workers w ≡ Rest q → Inv G (goes σ w (Asking q []))
   begin_inv σ w q inv e = idle_inv σ w (Asking q []) inv (λ r. rw e refl) (λ r. refl) (λ r. rw e refl) (λ u r. rw e refl) (record { seen = 0 })
 
-  pub give_up_inv : (σ : State) (w q k : ℕ) (reads : List Read) → Inv S σ → σ.workers w ≡ Wanting q reads k → Inv S (goes σ w (Rest q))
+  pub give_up_inv : (σ : State) (w q k : ℕ) (reads : List Read) → Inv G σ → σ.workers w ≡ Wanting q reads k → Inv G (goes σ w (Rest q))
   give_up_inv σ w q k reads inv e = idle_inv σ w (Rest q) inv (λ r. rw e refl) (λ r. refl) (λ r. rw e refl) (λ u r. rw e refl) 0
 
-  pub give_up_load_inv : (σ : State) (w q k seen : ℕ) (reads : List Read) (loaded : List ℕ) → Inv S σ → σ.workers w ≡ Loading q reads k seen loaded → Inv S (goes σ w (Rest q))
+  pub give_up_load_inv : (σ : State) (w q k seen : ℕ) (reads : List Read) (loaded : List ℕ) → Inv G σ → σ.workers w ≡ Loading q reads k seen loaded → Inv G (goes σ w (Rest q))
   give_up_load_inv σ w q k seen reads loaded inv e = idle_inv σ w (Rest q) inv (λ r. rw e refl) (λ r. refl) (λ r. rw e refl) (λ u r. rw e refl) 0
 
-  pub ask_inv : (σ : State) (w q : ℕ) (reads : List Read) → Inv S σ → σ.workers w ≡ Asking q reads → Inv S (goes σ w (asked q reads (S.ask w q reads)))
-  ask_inv σ w q reads inv e = go (S.ask w q reads) refl
+  pub ask_inv : (σ : State) (w q : ℕ) (reads : List Read) → Inv G σ → σ.workers w ≡ Asking q reads → Inv G (goes σ w (asked q reads (G.setting.ask w q reads)))
+  ask_inv σ w q reads inv e = go (G.setting.ask w q reads) refl
     where
-      kn : ReadsOk S σ w q reads
-      kn = let h : Knows S σ w (Asking q reads) = rw e at (inv.knows w) in h
+      kn : ReadsOk G σ w q reads
+      kn = let h : Knows G σ w (Asking q reads) = rw e at (inv.knows w) in h
 
-      go : (o : Outcome) → S.ask w q reads ≡ o → Inv S (goes σ w (asked q reads o))
+      go : (o : Outcome) → G.setting.ask w q reads ≡ o → Inv G (goes σ w (asked q reads o))
       go (Wants r) a = idle_inv σ w (Wanting q reads r) inv (λ r. rw e refl) (λ r. refl) (λ r. rw e refl) (λ u r. rw e refl) kn
       go (Ends answer writes) a = idle_inv σ w (Locking q reads answer [] writes) inv (λ r. rw e refl) (λ r. refl) (λ r. rw e refl) (λ u r. rw e refl)
           (record { reads_ok = kn; ends = a; holds = λ r h. absurd (true≢false (sym h)) })
 
-  pub first_load_inv : (σ : State) (w q r : ℕ) (reads : List Read) → Inv S σ → σ.workers w ≡ Wanting q reads r → Inv S (goes σ w (Loading q reads r (σ.recs r).stamp []))
+  pub first_load_inv : (σ : State) (w q r : ℕ) (reads : List Read) → Inv G σ → σ.workers w ≡ Wanting q reads r → Inv G (goes σ w (Loading q reads r (σ.recs r).stamp []))
   first_load_inv σ w q r reads inv e =
-      let kn : Knows S σ w (Wanting q reads r) = rw e at (inv.knows w) in
+      let kn : Knows G σ w (Wanting q reads r) = rw e at (inv.knows w) in
       idle_inv σ w (Loading q reads r (σ.recs r).stamp []) inv (λ r. rw e refl) (λ r. refl) (λ r. rw e refl) (λ u r. rw e refl)
       (record { reads_ok = kn; open_ok = (omega arith, λ a s. refl); short = omega arith })
 
   pub take_one_more : (loaded cells : List ℕ) → length loaded < length cells → loaded ≡ take (length loaded) cells → loaded ++ get_or cells (length loaded) 0 ∷ [] ≡ take (length (loaded ++ get_or cells (length loaded) 0 ∷ [])) cells
   take_one_more loaded cells short e = grind (arith, common_steps)
 
-  pub column_load_inv : (σ : State) (w q r seen : ℕ) (reads : List Read) (loaded : List ℕ) → Inv S σ → σ.workers w ≡ Loading q reads r seen loaded
-      → length loaded < length (σ.recs r).cells → Inv S (goes σ w (Loading q reads r seen (loaded ++ get_or (σ.recs r).cells (length loaded) 0 ∷ [])))
+  pub column_load_inv : (σ : State) (w q r seen : ℕ) (reads : List Read) (loaded : List ℕ) → Inv G σ → σ.workers w ≡ Loading q reads r seen loaded
+      → length loaded < length (σ.recs r).cells → Inv G (goes σ w (Loading q reads r seen (loaded ++ get_or (σ.recs r).cells (length loaded) 0 ∷ [])))
   column_load_inv σ w q r seen reads loaded inv e short =
-      let kn : Knows S σ w (Loading q reads r seen loaded) = rw e at (inv.knows w) in
+      let kn : Knows G σ w (Loading q reads r seen loaded) = rw e at (inv.knows w) in
       idle_inv σ w (Loading q reads r seen (loaded ++ get_or (σ.recs r).cells (length loaded) 0 ∷ [])) inv (λ r. rw e refl) (λ r. refl) (λ r. rw e refl) (λ u r. rw e refl)
       (record {
         reads_ok = kn.reads_ok;
@@ -120,18 +120,18 @@ module _ (S : Setting) (L : Lawful S) where
         short = simp length-append (omega (arith, inv.width_is r));
       })
 
-  pub seen_with : (σ : State) (b : ℕ) (xs : List Read) (x : Read) → Seen S σ b xs → Version S σ x.rec x.seen x.row → x.seen < b → Seen S σ b (with_read x xs)
+  pub seen_with : (σ : State) (b : ℕ) (xs : List Read) (x : Read) → Seen G σ b xs → Version G σ x.rec x.seen x.row → x.seen < b → Seen G σ b (with_read x xs)
   seen_with σ b [] x h v l = (v, l, 0)
-  seen_with σ b (y ∷ xs) x h v l = elim (nat_lt x.rec y.rec) as (λ t. Seen S σ b (if t then x ∷ y ∷ xs else y ∷ with_read x xs)) [
+  seen_with σ b (y ∷ xs) x h v l = elim (nat_lt x.rec y.rec) as (λ t. Seen G σ b (if t then x ∷ y ∷ xs else y ∷ with_read x xs)) [
     | true ↦ (v, l, h)
     | false ↦ (h.0, h.1, seen_with σ b xs x h.2 v l)
   ]
 
-  pub confirm_inv : (σ : State) (w q r seen : ℕ) (reads : List Read) (loaded : List ℕ) → Inv S σ → σ.workers w ≡ Loading q reads r seen loaded
+  pub confirm_inv : (σ : State) (w q r seen : ℕ) (reads : List Read) (loaded : List ℕ) → Inv G σ → σ.workers w ≡ Loading q reads r seen loaded
       → length (σ.recs r).cells ≤ length loaded → (σ.recs r).holder ≡ None → (σ.recs r).stamp ≡ seen
-      → Inv S (goes σ w (Asking q (with_read (record { rec = r; seen = seen; row = loaded }) reads)))
+      → Inv G (goes σ w (Asking q (with_read (record { rec = r; seen = seen; row = loaded }) reads)))
   confirm_inv σ w q r seen reads loaded inv e long free same =
-      let kn : Knows S σ w (Loading q reads r seen loaded) = rw e at (inv.knows w) in
+      let kn : Knows G σ w (Loading q reads r seen loaded) = rw e at (inv.knows w) in
       let x : Read = record { rec = r; seen = seen; row = loaded } in
       let s : settled σ r ≡ true = rw free refl in
       let all : loaded ≡ (σ.recs r).cells = take_whole loaded (σ.recs r).cells long (kn.open_ok.1 same s) in
@@ -140,17 +140,17 @@ module _ (S : Setting) (L : Lawful S) where
         seen = seen_with σ σ.next reads x kn.reads_ok.seen (rw (all, ← same) (inv.content r s)) (rw (← same) (inv.fresh r));
       })
 
-  pub lock_refused_inv : (σ : State) (w q : ℕ) (reads : List Read) (answer : Answer) (locked todo : List Install) → Inv S σ → σ.workers w ≡ Locking q reads answer locked todo
-      → Inv S (goes σ w (Refusing q locked))
+  pub lock_refused_inv : (σ : State) (w q : ℕ) (reads : List Read) (answer : Answer) (locked todo : List Install) → Inv G σ → σ.workers w ≡ Locking q reads answer locked todo
+      → Inv G (goes σ w (Refusing q locked))
   lock_refused_inv σ w q reads answer locked todo inv e =
-      let kn : Knows S σ w (Locking q reads answer locked todo) = rw e at (inv.knows w) in
+      let kn : Knows G σ w (Locking q reads answer locked todo) = rw e at (inv.knows w) in
       goes_inv σ w (Refusing q locked) inv (λ r h. rw e at h) (λ r. rw e refl) (λ u r h. absurd (true≢false (sym (rw e at h))))
       (record { holds = kn.holds; distinct = distinct_front locked todo (L.ends_ok w q reads answer (locked ++ todo) kn.ends).0 })
 
-  pub validate_inv : (σ : State) (w q t : ℕ) (done : List Read) (x : Read) (todo : List Read) (answer : Answer) (writes : List Install) → Inv S σ
-      → σ.workers w ≡ Validating q t done (x ∷ todo) answer writes → Alone S σ t x.rec x.seen → Inv S (goes σ w (Validating q t (done ++ x ∷ []) todo answer writes))
+  pub validate_inv : (σ : State) (w q t : ℕ) (done : List Read) (x : Read) (todo : List Read) (answer : Answer) (writes : List Install) → Inv G σ
+      → σ.workers w ≡ Validating q t done (x ∷ todo) answer writes → Alone G σ t x.rec x.seen → Inv G (goes σ w (Validating q t (done ++ x ∷ []) todo answer writes))
   validate_inv σ w q t done x todo answer writes inv e al =
-      let kn : Knows S σ w (Validating q t done (x ∷ todo) answer writes) = rw e at (inv.knows w) in
+      let kn : Knows G σ w (Validating q t done (x ∷ todo) answer writes) = rw e at (inv.knows w) in
       goes_inv σ w (Validating q t (done ++ x ∷ []) todo answer writes) inv (λ r h. rw e at h) (λ r. rw e refl) (λ u r h. rw e at h)
       (let same : (done ++ x ∷ []) ++ todo ≡ done ++ x ∷ todo = append_assoc done (x ∷ []) todo in
       record {
@@ -163,8 +163,8 @@ module _ (S : Setting) (L : Lawful S) where
         past = kn.past;
       })
 
-  pub rest_inv : (σ : State) (w q t j : ℕ) → Inv S σ → σ.workers w ≡ Storing q t j [] → Inv S (goes σ w (Rest (suc q)))
+  pub rest_inv : (σ : State) (w q t j : ℕ) → Inv G σ → σ.workers w ≡ Storing q t j [] → Inv G (goes σ w (Rest (suc q)))
   rest_inv σ w q t j inv e = goes_inv σ w (Rest (suc q)) inv (λ r h. rw e at h) (λ r. rw e refl) (λ u r h. absurd (and_false (u == t) (rw e at h))) 0
 
-  pub released_inv : (σ : State) (w q : ℕ) → Inv S σ → σ.workers w ≡ Refusing q [] → Inv S (goes σ w (Rest q))
+  pub released_inv : (σ : State) (w q : ℕ) → Inv G σ → σ.workers w ≡ Refusing q [] → Inv G (goes σ w (Rest q))
   released_inv σ w q inv e = goes_inv σ w (Rest q) inv (λ r h. rw e at h) (λ r. rw e refl) (λ u r h. rw e at h) 0

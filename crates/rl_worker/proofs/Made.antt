@@ -2,29 +2,29 @@
 use Rattle.std.proofs.Common.{◌≡◌, ◌≢◌, ℕ, zero, suc, ◌<◌, ◌≤◌, List, [], ◌∷◌, length, get_or, true, ◌==◌, nat_lt, Option, Some, None, refl, sym, ap, subst, arith, inl, inr, true≢false, length-set}
 use Rattle.std.proofs.lemmas.Bool.Decides.{eqb_tells}
 use Rattle.rl_worker.proofs.States.{Answer, Read, Install, Rec, Outcome, Wants, Ends, Phase, Rest, Asking, Wanting, Loading, Locking, Validating, Storing, Refusing, Setting, asked, other, upd}
-use Rattle.rl_worker.specs.Acts.{Moved, target, first_load_of, confirm_of, lock_of, moved, Core, no_rec, next_after, made_after, stamps_by, AllUnder, IsFalling, DrawnAbove, IsBelowNext, after, phase_of, micro_at, opening, idle, resting, micro, passing, settle, begin, step, step_on, is_done, may, Turn, Step, Idle, turn, run}
+use Rattle.rl_worker.specs.Acts.{ActResult, target, first_load_of, confirm_of, lock_of, act_result, Core, no_rec, next_after, made_after, core_after_act, phase_of, micro_at, opening_core, idle, resting, micro, passing, settle, begin, step, step_on, is_done, may, Turn, Step, Idle, turn, after_turns}
+use Rattle.rl_worker.specs.Laws.{stamps_by, AllUnder, IsFalling, DrawnAbove, IsBelowNext}
 use Rattle.rl_worker.proofs.OwnLaw.{AllRest}
 use Rattle.rl_worker.proofs.Whole.{there}
-use Rattle.rl_worker.proofs.Basics.{by_upd}
-use Rattle.rl_worker.proofs.Acts.{by_test}
+use Rattle.rl_worker.proofs.Basics.{by_upd, by_test}
 use Rattle.rl_worker.proofs.Lift.{set_reads}
 
 under_up : (t u : ℕ) (xs : List ℕ) → t ≤ u → AllUnder t xs → AllUnder u xs
-under_up t u [] l h = 0
+under_up t u [] l h = tt
 under_up t u (x ∷ xs) l h = (omega (arith, h.0), under_up t u xs l h.1)
 
 above_up : (p : Phase) (xs : List ℕ) (n : ℕ) → DrawnAbove p xs n → DrawnAbove p xs (suc n)
-above_up (Rest q) xs n h = 0
-above_up (Asking q reads) xs n h = 0
-above_up (Wanting q reads r) xs n h = 0
-above_up (Loading q reads r seen loaded) xs n h = 0
-above_up (Locking q reads answer locked todo) xs n h = 0
+above_up (Rest q) xs n h = tt
+above_up (Asking q reads) xs n h = tt
+above_up (Wanting q reads r) xs n h = tt
+above_up (Loading q reads r seen loaded) xs n h = tt
+above_up (Locking q reads answer locked todo) xs n h = tt
 above_up (Validating q t done todo answer writes) xs n h = (omega (arith, h.0), h.1)
-above_up (Storing q t j todo) xs n h = 0
-above_up (Refusing q todo) xs n h = 0
+above_up (Storing q t j todo) xs n h = tt
+above_up (Refusing q todo) xs n h = tt
 
 above_rest : (p : Phase) (xs : List ℕ) (n : ℕ) → resting p ≡ true → DrawnAbove p xs n
-above_rest (Rest q) xs n h = 0
+above_rest (Rest q) xs n h = tt
 above_rest (Asking q reads) xs n h = absurd (true≢false (sym h))
 above_rest (Wanting q reads r) xs n h = absurd (true≢false (sym h))
 above_rest (Loading q reads r seen loaded) xs n h = absurd (true≢false (sym h))
@@ -50,12 +50,12 @@ pub record MadeOk (c : Core) : Type 0 where
   pub drawn : (w : ℕ) → DrawnAbove (phase_of c w) (stamps_by w c.made) c.next
 
 module _ (S : Setting) (c : Core) (g : MadeOk c) (w : ℕ) (hw : w < length c.workers) where
-  phase_after : (k : ℕ) (m : Moved) (v : ℕ) → phase_of (after c w k m) v ≡ upd (λ u. get_or c.workers u (Rest 0)) w m.phase v
+  phase_after : (k : ℕ) (m : ActResult) (v : ℕ) → phase_of (core_after_act c w k m) v ≡ upd (λ u. get_or c.workers u (Rest 0)) w m.phase v
   phase_after k m v = ap (λ f. f v) (set_reads c.workers w m.phase (Rest 0) hw)
 
   -- an act that makes and draws nothing
-  plain : (k : ℕ) (p : Phase) (m : Moved) → phase_of c w ≡ p → made_after c.made m.event ≡ c.made → next_after c.next m.event ≡ c.next
-      → (DrawnAbove p (stamps_by w c.made) c.next → DrawnAbove m.phase (stamps_by w c.made) c.next) → MadeOk (after c w k m)
+  plain : (k : ℕ) (p : Phase) (m : ActResult) → phase_of c w ≡ p → made_after c.made m.effect ≡ c.made → next_after c.next m.effect ≡ c.next
+      → (DrawnAbove p (stamps_by w c.made) c.next → DrawnAbove m.phase (stamps_by w c.made) c.next) → MadeOk (core_after_act c w k m)
   plain k p m e d n late = record {
     falling = λ v. rw d (g.falling v);
     below = λ v. rw (d, n) (g.below v);
@@ -64,9 +64,9 @@ module _ (S : Setting) (c : Core) (g : MadeOk c) (w : ℕ) (hw : w < length c.wo
   }
 
   drew : (q : ℕ) (reads : List Read) (answer : Answer) (locked : List Install) (x : Rec) → phase_of c w ≡ Locking q reads answer locked []
-      → MadeOk (after c w 0 (moved S w c.next (Locking q reads answer locked []) x))
+      → MadeOk (core_after_act c w 0 (act_result S w c.next (Locking q reads answer locked []) x))
   drew q reads answer locked x e =
-      let m = moved S w c.next (Locking q reads answer locked []) x in
+      let m = act_result S w c.next (Locking q reads answer locked []) x in
       record {
         falling = g.falling;
         below = λ v. under_up c.next (suc c.next) (stamps_by v c.made) (omega arith) (g.below v);
@@ -75,9 +75,9 @@ module _ (S : Setting) (c : Core) (g : MadeOk c) (w : ℕ) (hw : w < length c.wo
       }
 
   won : (q t : ℕ) (done : List Read) (answer : Answer) (writes : List Install) (x : Rec) → phase_of c w ≡ Validating q t done [] answer writes
-      → MadeOk (after c w 0 (moved S w c.next (Validating q t done [] answer writes) x))
+      → MadeOk (core_after_act c w 0 (act_result S w c.next (Validating q t done [] answer writes) x))
   won q t done answer writes x e =
-      let m = moved S w c.next (Validating q t done [] answer writes) x in
+      let m = act_result S w c.next (Validating q t done [] answer writes) x in
       let mine : DrawnAbove (Validating q t done [] answer writes) (stamps_by w c.made) c.next = rw e at (g.drawn w) in
       record {
         falling = λ v. elim (eqb_tells v w) [
@@ -89,51 +89,51 @@ module _ (S : Setting) (c : Core) (g : MadeOk c) (w : ℕ) (hw : w < length c.wo
           | inr n ↦ rw (stamps_other v w t c.made n.1) (g.below v)
         ];
         drawn = λ v. rw phase_after (by_upd (λ z. DrawnAbove z (stamps_by v ((w, t) ∷ c.made)) c.next) (λ u. get_or c.workers u (Rest 0)) w m.phase v
-            (λ i. 0) (λ o. rw (stamps_other v w t c.made o) (g.drawn v)));
+            (λ i. tt) (λ o. rw (stamps_other v w t c.made o) (g.drawn v)));
       }
 
-  abbrev IsPlain : Phase → Moved → Type 0
-  IsPlain p m = (made_after c.made m.event ≡ c.made) × (next_after c.next m.event ≡ c.next) × (DrawnAbove p (stamps_by w c.made) c.next → DrawnAbove m.phase (stamps_by w c.made) c.next)
+  abbrev IsPlain : Phase → ActResult → Type 0
+  IsPlain p m = (made_after c.made m.effect ≡ c.made) × (next_after c.next m.effect ≡ c.next) × (DrawnAbove p (stamps_by w c.made) c.next → DrawnAbove m.phase (stamps_by w c.made) c.next)
 
-  plain_at : (p : Phase) → phase_of c w ≡ p → IsPlain p (moved S w c.next p (get_or c.recs (target p) no_rec)) → MadeOk (micro_at S c w p)
-  plain_at p e h = plain (target p) p (moved S w c.next p (get_or c.recs (target p) no_rec)) e h.0 h.1 h.2
+  plain_at : (p : Phase) → phase_of c w ≡ p → IsPlain p (act_result S w c.next p (get_or c.recs (target p) no_rec)) → MadeOk (micro_at S c w p)
+  plain_at p e h = plain (target p) p (act_result S w c.next p (get_or c.recs (target p) no_rec)) e h.0 h.1 h.2
 
   asked_above : (q : ℕ) (reads : List Read) (o : Outcome) → DrawnAbove (asked q reads o) (stamps_by w c.made) c.next
-  asked_above q reads (Wants r) = 0
-  asked_above q reads (Ends answer writes) = 0
+  asked_above q reads (Wants r) = tt
+  asked_above q reads (Ends answer writes) = tt
 
   first_load_plain : (q : ℕ) (reads : List Read) (r : ℕ) (x : Rec) (h : Option ℕ) → IsPlain (Wanting q reads r) (first_load_of w q reads r x h)
-  first_load_plain q reads r x None = (refl, refl, λ h. 0)
-  first_load_plain q reads r x (Some v) = (refl, refl, λ h. 0)
+  first_load_plain q reads r x None = (refl, refl, λ h. tt)
+  first_load_plain q reads r x (Some v) = (refl, refl, λ h. tt)
 
   confirm_plain : (q : ℕ) (reads : List Read) (r seen : ℕ) (loaded : List ℕ) (x : Rec) (h : Option ℕ) → IsPlain (Loading q reads r seen loaded) (confirm_of w q reads r seen loaded x h)
-  confirm_plain q reads r seen loaded x None = by_test (λ z. IsPlain (Loading q reads r seen loaded) z) (x.stamp == seen) _ _ (λ t. (refl, refl, λ h. 0)) (λ t. (refl, refl, λ h. 0))
-  confirm_plain q reads r seen loaded x (Some v) = (refl, refl, λ h. 0)
+  confirm_plain q reads r seen loaded x None = by_test (λ z. IsPlain (Loading q reads r seen loaded) z) (x.stamp == seen) _ _ (λ t. (refl, refl, λ h. tt)) (λ t. (refl, refl, λ h. tt))
+  confirm_plain q reads r seen loaded x (Some v) = (refl, refl, λ h. tt)
 
   lock_plain : (q : ℕ) (reads : List Read) (answer : Answer) (locked : List Install) (y : Install) (todo : List Install) (x : Rec) (h : Option ℕ)
       → IsPlain (Locking q reads answer locked (y ∷ todo)) (lock_of w q reads answer locked y todo x h)
-  lock_plain q reads answer locked y todo x None = (refl, refl, λ h. 0)
-  lock_plain q reads answer locked y todo x (Some v) = (refl, refl, λ h. 0)
+  lock_plain q reads answer locked y todo x None = (refl, refl, λ h. tt)
+  lock_plain q reads answer locked y todo x (Some v) = (refl, refl, λ h. tt)
 
   pub micro_made : (p : Phase) → phase_of c w ≡ p → MadeOk (micro_at S c w p)
-  micro_made (Rest q) e = plain_at (Rest q) e (refl, refl, λ h. 0)
+  micro_made (Rest q) e = plain_at (Rest q) e (refl, refl, λ h. tt)
   micro_made (Asking q reads) e = plain_at (Asking q reads) e (refl, refl, λ h. asked_above q reads (S.ask w q reads))
   micro_made (Wanting q reads r) e = plain_at (Wanting q reads r) e (first_load_plain q reads r (get_or c.recs r no_rec) (get_or c.recs r no_rec).holder)
   micro_made (Loading q reads r seen loaded) e = plain_at (Loading q reads r seen loaded) e
       (by_test (λ z. IsPlain (Loading q reads r seen loaded) z) (nat_lt (length loaded) (length (get_or c.recs r no_rec).cells)) _ _
-      (λ t. (refl, refl, λ h. 0)) (λ t. confirm_plain q reads r seen loaded (get_or c.recs r no_rec) (get_or c.recs r no_rec).holder))
+      (λ t. (refl, refl, λ h. tt)) (λ t. confirm_plain q reads r seen loaded (get_or c.recs r no_rec) (get_or c.recs r no_rec).holder))
   micro_made (Locking q reads answer locked (y ∷ todo)) e = plain_at (Locking q reads answer locked (y ∷ todo)) e (lock_plain q reads answer locked y todo (get_or c.recs y.rec no_rec) (get_or c.recs y.rec no_rec).holder)
   micro_made (Locking q reads answer locked []) e = drew q reads answer locked (get_or c.recs 0 no_rec) e
   micro_made (Validating q t done (y ∷ todo) answer writes) e = plain_at (Validating q t done (y ∷ todo) answer writes) e
-      (by_test (λ z. IsPlain (Validating q t done (y ∷ todo) answer writes) z) (other w (get_or c.recs y.rec no_rec).holder) _ _ (λ f. (refl, refl, λ h. 0))
+      (by_test (λ z. IsPlain (Validating q t done (y ∷ todo) answer writes) z) (other w (get_or c.recs y.rec no_rec).holder) _ _ (λ f. (refl, refl, λ h. tt))
       (λ f. by_test (λ z. IsPlain (Validating q t done (y ∷ todo) answer writes) z) ((get_or c.recs y.rec no_rec).stamp == y.seen) _ _
-      (λ s. (refl, refl, λ h. h)) (λ s. (refl, refl, λ h. 0))))
+      (λ s. (refl, refl, λ h. h)) (λ s. (refl, refl, λ h. tt))))
   micro_made (Validating q t done [] answer writes) e = won q t done answer writes (get_or c.recs 0 no_rec) e
   micro_made (Storing q t j (y ∷ todo)) e = plain_at (Storing q t j (y ∷ todo)) e
-      (by_test (λ z. IsPlain (Storing q t j (y ∷ todo)) z) (nat_lt j (length y.row)) _ _ (λ s. (refl, refl, λ h. 0)) (λ s. (refl, refl, λ h. 0)))
-  micro_made (Storing q t j []) e = plain_at (Storing q t j []) e (refl, refl, λ h. 0)
-  micro_made (Refusing q (y ∷ todo)) e = plain_at (Refusing q (y ∷ todo)) e (refl, refl, λ h. 0)
-  micro_made (Refusing q []) e = plain_at (Refusing q []) e (refl, refl, λ h. 0)
+      (by_test (λ z. IsPlain (Storing q t j (y ∷ todo)) z) (nat_lt j (length y.row)) _ _ (λ s. (refl, refl, λ h. tt)) (λ s. (refl, refl, λ h. tt)))
+  micro_made (Storing q t j []) e = plain_at (Storing q t j []) e (refl, refl, λ h. tt)
+  micro_made (Refusing q (y ∷ todo)) e = plain_at (Refusing q (y ∷ todo)) e (refl, refl, λ h. tt)
+  micro_made (Refusing q []) e = plain_at (Refusing q []) e (refl, refl, λ h. tt)
 
   micro_there : w < length (micro_at S c w (phase_of c w)).workers
   micro_there = rw length-set hw
@@ -178,20 +178,20 @@ module _ (S : Setting) where
   turn_ok c (Step w) g = by_test (λ z. MadeOk z) (may S c w) (step S c w) c (λ t. step_ok c w (there S c w t) g) (λ t. g)
   turn_ok c (Idle w) g = by_test (λ z. MadeOk z) (may S c w) (idle c w) c (λ t. idle_ok c w g) (λ t. g)
 
-  run_ok : (ts : List Turn) (c : Core) → MadeOk c → MadeOk (run S c ts)
+  run_ok : (ts : List Turn) (c : Core) → MadeOk c → MadeOk (after_turns S c ts)
   run_ok [] c g = g
   run_ok (t ∷ ts) c g = run_ok ts (turn S c t) (turn_ok c t g)
 
-  made_ok : (recs : List Rec) (workers : List Phase) (turns : List Turn) → AllRest workers → MadeOk (run S (opening S recs workers) turns)
-  made_ok recs workers turns h = run_ok turns (opening S recs workers) (record {
-    falling = λ v. 0;
-    below = λ v. 0;
+  made_ok : (recs : List Rec) (workers : List Phase) (turns : List Turn) → AllRest workers → MadeOk (after_turns S (opening_core S recs workers) turns)
+  made_ok recs workers turns h = run_ok turns (opening_core S recs workers) (record {
+    falling = λ v. tt;
+    below = λ v. tt;
     drawn = λ v. above_rest (get_or workers v (Rest 0)) [] S.base (rest_of workers v h);
   })
 
-  -- the stamps of each worker rise from the opening on
-  pub stamps_rise : (recs : List Rec) (workers : List Phase) (turns : List Turn) → AllRest workers → (w : ℕ) → IsFalling (stamps_by w (run S (opening S recs workers) turns).made)
+  -- the stamps of each worker rise from the opening_core on
+  pub stamps_rise : (recs : List Rec) (workers : List Phase) (turns : List Turn) → AllRest workers → (w : ℕ) → IsFalling (stamps_by w (after_turns S (opening_core S recs workers) turns).made)
   stamps_rise recs workers turns h w = (made_ok recs workers turns h).falling w
 
-  pub stamps_below : (recs : List Rec) (workers : List Phase) (turns : List Turn) → AllRest workers → (w : ℕ) → IsBelowNext w (run S (opening S recs workers) turns)
+  pub stamps_below : (recs : List Rec) (workers : List Phase) (turns : List Turn) → AllRest workers → (w : ℕ) → IsBelowNext w (after_turns S (opening_core S recs workers) turns)
   stamps_below recs workers turns h w = ((made_ok recs workers turns h).below w, (made_ok recs workers turns h).drawn w)

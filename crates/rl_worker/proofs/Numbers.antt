@@ -2,11 +2,10 @@
 use Rattle.std.proofs.Common.{◌≡◌, ◌≢◌, ℕ, zero, suc, ◌+◌, ◌<◌, ◌≤◌, List, [], ◌∷◌, ◌++◌, length, get_or, ◌==◌, nat_lt, if◌then◌else◌, Option, Some, None, refl, sym, ap, ◌∙◌, arith, inl, inr, length-set}
 use Rattle.std.proofs.lemmas.Bool.Decides.{eqb_tells}
 use Rattle.rl_worker.proofs.States.{Answer, Read, Install, Rec, Outcome, Wants, Ends, Phase, Rest, Asking, Wanting, Loading, Locking, Validating, Storing, Refusing, Setting, asked, other, upd}
-use Rattle.rl_worker.specs.Items.{Item, place}
+use Rattle.rl_worker.specs.Items.{CoreItem, insert_by_stamp}
+use Rattle.rl_worker.specs.Acts.{ActResult, target, first_load_of, confirm_of, lock_of, act_result, Core, no_rec, next_after, decided_after, core_after_act, phase_of, micro_at, opening_core, idle, resting}
 use Rattle.rl_worker.proofs.OwnLaw.{Rising, indexes, upto, InLists}
-use Rattle.rl_worker.specs.Acts.{Moved, target, first_load_of, confirm_of, lock_of, moved, Core, no_rec, next_after, decided_after, after, phase_of, micro_at, opening, idle, resting}
-use Rattle.rl_worker.proofs.Basics.{by_upd, upd_same, upd_other}
-use Rattle.rl_worker.proofs.Acts.{by_test, test_lt}
+use Rattle.rl_worker.proofs.Basics.{by_upd, upd_same, upd_other, by_test, test_lt}
 use Rattle.rl_worker.proofs.Lift.{set_reads}
 
 -- the index of the request to come, once the present attempt is decided or not
@@ -20,16 +19,16 @@ number (Validating q t done todo answer writes) = q
 number (Storing q t j todo) = suc q
 number (Refusing q todo) = q
 
-abbrev pub BelowOf : ℕ → ℕ → List Item → Type 0
+abbrev pub BelowOf : ℕ → ℕ → List CoreItem → Type 0
 BelowOf w t [] = ℕ
 BelowOf w t (x ∷ xs) = (x.worker ≡ w → x.stamp < t) × BelowOf w t xs
 
-abbrev pub AllBelow : ℕ → List Item → Type 0
+abbrev pub AllBelow : ℕ → List CoreItem → Type 0
 AllBelow t [] = ℕ
 AllBelow t (x ∷ xs) = (x.stamp < t) × AllBelow t xs
 
 -- a drawn stamp is above what this worker has decided
-abbrev pub Latest : Phase → ℕ → List Item → ℕ → Type 0
+abbrev pub Latest : Phase → ℕ → List CoreItem → ℕ → Type 0
 Latest (Rest q) w xs n = ℕ
 Latest (Asking q reads) w xs n = ℕ
 Latest (Wanting q reads r) w xs n = ℕ
@@ -39,42 +38,42 @@ Latest (Validating q t done todo answer writes) w xs n = (t < n) × BelowOf w t 
 Latest (Storing q t j todo) w xs n = ℕ
 Latest (Refusing q todo) w xs n = ℕ
 
-below_of : (w t : ℕ) (xs : List Item) → AllBelow t xs → BelowOf w t xs
+below_of : (w t : ℕ) (xs : List CoreItem) → AllBelow t xs → BelowOf w t xs
 below_of w t [] h = 0
 below_of w t (x ∷ xs) h = (λ e. h.0, below_of w t xs h.1)
 
-all_below_up : (t u : ℕ) (xs : List Item) → t ≤ u → AllBelow t xs → AllBelow u xs
+all_below_up : (t u : ℕ) (xs : List CoreItem) → t ≤ u → AllBelow t xs → AllBelow u xs
 all_below_up t u [] l h = 0
 all_below_up t u (x ∷ xs) l h = (omega (arith, h.0), all_below_up t u xs l h.1)
 
-all_below_place : (t : ℕ) (x : Item) (xs : List Item) → x.stamp < t → AllBelow t xs → AllBelow t (place x xs)
+all_below_place : (t : ℕ) (x : CoreItem) (xs : List CoreItem) → x.stamp < t → AllBelow t xs → AllBelow t (insert_by_stamp x xs)
 all_below_place t x [] l h = (l, 0)
-all_below_place t x (y ∷ ys) l h = by_test (λ z. AllBelow t z) (nat_lt x.stamp y.stamp) (x ∷ y ∷ ys) (y ∷ place x ys) (λ e. (l, h)) (λ e. (h.0, all_below_place t x ys l h.1))
+all_below_place t x (y ∷ ys) l h = by_test (λ z. AllBelow t z) (nat_lt x.stamp y.stamp) (x ∷ y ∷ ys) (y ∷ insert_by_stamp x ys) (λ e. (l, h)) (λ e. (h.0, all_below_place t x ys l h.1))
 
-below_of_place : (w t : ℕ) (x : Item) (xs : List Item) → x.worker ≢ w → BelowOf w t xs → BelowOf w t (place x xs)
+below_of_place : (w t : ℕ) (x : CoreItem) (xs : List CoreItem) → x.worker ≢ w → BelowOf w t xs → BelowOf w t (insert_by_stamp x xs)
 below_of_place w t x [] n h = (λ e. absurd (n e), 0)
-below_of_place w t x (y ∷ ys) n h = by_test (λ z. BelowOf w t z) (nat_lt x.stamp y.stamp) (x ∷ y ∷ ys) (y ∷ place x ys) (λ e. (λ i. absurd (n i), h)) (λ e. (h.0, below_of_place w t x ys n h.1))
+below_of_place w t x (y ∷ ys) n h = by_test (λ z. BelowOf w t z) (nat_lt x.stamp y.stamp) (x ∷ y ∷ ys) (y ∷ insert_by_stamp x ys) (λ e. (λ i. absurd (n i), h)) (λ e. (h.0, below_of_place w t x ys n h.1))
 
-indexes_place_other : (w : ℕ) (x : Item) (xs : List Item) → x.worker ≢ w → indexes w (place x xs) ≡ indexes w xs
+indexes_place_other : (w : ℕ) (x : CoreItem) (xs : List CoreItem) → x.worker ≢ w → indexes w (insert_by_stamp x xs) ≡ indexes w xs
 indexes_place_other w x [] n = elim (eqb_tells x.worker w) [ inl e ↦ absurd (n e.1) | inr e ↦ rw e.0 refl ]
-indexes_place_other w x (y ∷ ys) n = by_test (λ z. indexes w z ≡ indexes w (y ∷ ys)) (nat_lt x.stamp y.stamp) (x ∷ y ∷ ys) (y ∷ place x ys)
+indexes_place_other w x (y ∷ ys) n = by_test (λ z. indexes w z ≡ indexes w (y ∷ ys)) (nat_lt x.stamp y.stamp) (x ∷ y ∷ ys) (y ∷ insert_by_stamp x ys)
     (λ e. elim (eqb_tells x.worker w) [ inl i ↦ absurd (n i.1) | inr i ↦ rw i.0 refl ])
     (λ e. ap (λ z. if y.worker == w then y.index ∷ z else z) (indexes_place_other w x ys n))
 
-none_after : (w t : ℕ) (xs : List Item) → Rising t xs → BelowOf w t xs → indexes w xs ≡ []
+none_after : (w t : ℕ) (xs : List CoreItem) → Rising t xs → BelowOf w t xs → indexes w xs ≡ []
 none_after w t [] r h = refl
 none_after w t (x ∷ xs) r h = elim (eqb_tells x.worker w) [
   | inl e ↦ absurd (omega (arith, h.0 e.1, r.0))
   | inr e ↦ rw e.0 (none_after w t xs (rising_down t (suc x.stamp) xs (omega (arith, r.0)) r.1) h.1)
 ]
   where
-    rising_down : (a b : ℕ) (ys : List Item) → a ≤ b → Rising b ys → Rising a ys
+    rising_down : (a b : ℕ) (ys : List CoreItem) → a ≤ b → Rising b ys → Rising a ys
     rising_down a b [] l k = 0
     rising_down a b (y ∷ ys) l k = (omega (arith, k.0), k.1)
 
-indexes_place : (w b : ℕ) (x : Item) (xs : List Item) → x.worker ≡ w → Rising b xs → BelowOf w x.stamp xs → indexes w (place x xs) ≡ indexes w xs ++ x.index ∷ []
+indexes_place : (w b : ℕ) (x : CoreItem) (xs : List CoreItem) → x.worker ≡ w → Rising b xs → BelowOf w x.stamp xs → indexes w (insert_by_stamp x xs) ≡ indexes w xs ++ x.index ∷ []
 indexes_place w b x [] i r h = elim (eqb_tells x.worker w) [ inl e ↦ rw e.0 refl | inr e ↦ absurd (e.1 i) ]
-indexes_place w b x (y ∷ ys) i r h = by_test (λ z. indexes w z ≡ indexes w (y ∷ ys) ++ x.index ∷ []) (nat_lt x.stamp y.stamp) (x ∷ y ∷ ys) (y ∷ place x ys)
+indexes_place w b x (y ∷ ys) i r h = by_test (λ z. indexes w z ≡ indexes w (y ∷ ys) ++ x.index ∷ []) (nat_lt x.stamp y.stamp) (x ∷ y ∷ ys) (y ∷ insert_by_stamp x ys)
     (λ e. let less = test_lt x.stamp y.stamp e in
     let none : indexes w (y ∷ ys) ≡ [] = none_after w x.stamp (y ∷ ys) (omega arith, r.1) h in
     elim (eqb_tells x.worker w) [ inl k ↦ rw (k.0, none) refl | inr k ↦ absurd (k.1 i) ])
@@ -94,12 +93,12 @@ module _ (first : ℕ → ℕ) where
     pub below : AllBelow c.next c.decided
 
   module _ (S : Setting) (c : Core) (b : ℕ) (rise : Rising b c.decided) (g : Numbered c) (w : ℕ) (hw : w < length c.workers) where
-    phase_after : (k : ℕ) (m : Moved) (v : ℕ) → phase_of (after c w k m) v ≡ upd (λ u. get_or c.workers u (Rest 0)) w m.phase v
+    phase_after : (k : ℕ) (m : ActResult) (v : ℕ) → phase_of (core_after_act c w k m) v ≡ upd (λ u. get_or c.workers u (Rest 0)) w m.phase v
     phase_after k m v = ap (λ f. f v) (set_reads c.workers w m.phase (Rest 0) hw)
 
     -- an act that decides and draws nothing
-    plain : (k : ℕ) (p : Phase) (m : Moved) → phase_of c w ≡ p → decided_after c.decided m.event ≡ c.decided → next_after c.next m.event ≡ c.next
-        → number m.phase ≡ number p → (Latest p w c.decided c.next → Latest m.phase w c.decided c.next) → Numbered (after c w k m)
+    plain : (k : ℕ) (p : Phase) (m : ActResult) → phase_of c w ≡ p → decided_after c.decided m.effect ≡ c.decided → next_after c.next m.effect ≡ c.next
+        → number m.phase ≡ number p → (Latest p w c.decided c.next → Latest m.phase w c.decided c.next) → Numbered (core_after_act c w k m)
     plain k p m e d n same late = record {
       count = g.count;
       lists = λ v. rw d (g.lists v);
@@ -111,9 +110,9 @@ module _ (first : ℕ → ℕ) where
     }
 
     drew : (q : ℕ) (reads : List Read) (answer : Answer) (locked : List Install) (x : Rec) → phase_of c w ≡ Locking q reads answer locked []
-        → Numbered (after c w 0 (moved S w c.next (Locking q reads answer locked []) x))
+        → Numbered (core_after_act c w 0 (act_result S w c.next (Locking q reads answer locked []) x))
     drew q reads answer locked x e =
-        let m = moved S w c.next (Locking q reads answer locked []) x in
+        let m = act_result S w c.next (Locking q reads answer locked []) x in
         record {
           count = g.count;
           lists = g.lists;
@@ -135,10 +134,10 @@ module _ (first : ℕ → ℕ) where
         latest_up (Refusing q todo) v h = 0
 
     won : (q t : ℕ) (done : List Read) (answer : Answer) (writes : List Install) (x : Rec) → phase_of c w ≡ Validating q t done [] answer writes
-        → Numbered (after c w 0 (moved S w c.next (Validating q t done [] answer writes) x))
+        → Numbered (core_after_act c w 0 (act_result S w c.next (Validating q t done [] answer writes) x))
     won q t done answer writes x e =
-        let m = moved S w c.next (Validating q t done [] answer writes) x in
-        let y : Item = record { stamp = t; worker = w; index = q; answer = answer; writes = writes } in
+        let m = act_result S w c.next (Validating q t done [] answer writes) x in
+        let y : CoreItem = record { stamp = t; worker = w; index = q; answer = answer; writes = writes } in
         let mine : Latest (Validating q t done [] answer writes) w c.decided c.next = rw e at (g.latest w) in
         let old : q ≡ first w + g.count w = ap number (sym e) ∙ g.numbers w hw in
         record {
@@ -151,12 +150,12 @@ module _ (first : ℕ → ℕ) where
             | inl i ↦ rw (phase_after, i.1, upd_same g.count w (suc (g.count w)), upd_same (λ u. get_or c.workers u (Rest 0)) w m.phase) (omega (arith, old))
             | inr n ↦ rw (phase_after, upd_other g.count w (suc (g.count w)) v n.1, upd_other (λ u. get_or c.workers u (Rest 0)) w m.phase v n.1) (g.numbers v (rw length-set at l))
           ];
-          latest = λ v. rw phase_after (by_upd (λ z. Latest z v (place y c.decided) c.next) (λ u. get_or c.workers u (Rest 0)) w m.phase v
+          latest = λ v. rw phase_after (by_upd (λ z. Latest z v (insert_by_stamp y c.decided) c.next) (λ u. get_or c.workers u (Rest 0)) w m.phase v
               (λ i. 0) (λ o. latest_place (phase_of c v) v (λ j. o (sym j)) (g.latest v)));
           below = all_below_place c.next y c.decided mine.0 g.below;
         }
       where
-        latest_place : (p : Phase) (v : ℕ) → w ≢ v → Latest p v c.decided c.next → Latest p v (place (record { stamp = t; worker = w; index = q; answer = answer; writes = writes }) c.decided) c.next
+        latest_place : (p : Phase) (v : ℕ) → w ≢ v → Latest p v c.decided c.next → Latest p v (insert_by_stamp (record { stamp = t; worker = w; index = q; answer = answer; writes = writes }) c.decided) c.next
         latest_place (Rest q) v n h = 0
         latest_place (Asking q reads) v n h = 0
         latest_place (Wanting q reads r) v n h = 0
@@ -170,11 +169,11 @@ module _ (first : ℕ → ℕ) where
     asked_number q reads (Wants r) = (refl, 0)
     asked_number q reads (Ends answer writes) = (refl, 0)
 
-    abbrev IsPlain : Phase → Moved → Type 0
-    IsPlain p m = (decided_after c.decided m.event ≡ c.decided) × (next_after c.next m.event ≡ c.next) × (number m.phase ≡ number p) × (Latest p w c.decided c.next → Latest m.phase w c.decided c.next)
+    abbrev IsPlain : Phase → ActResult → Type 0
+    IsPlain p m = (decided_after c.decided m.effect ≡ c.decided) × (next_after c.next m.effect ≡ c.next) × (number m.phase ≡ number p) × (Latest p w c.decided c.next → Latest m.phase w c.decided c.next)
 
-    plain_at : (p : Phase) → phase_of c w ≡ p → IsPlain p (moved S w c.next p (get_or c.recs (target p) no_rec)) → Numbered (micro_at S c w p)
-    plain_at p e h = plain (target p) p (moved S w c.next p (get_or c.recs (target p) no_rec)) e h.0 h.1 h.2 h.3
+    plain_at : (p : Phase) → phase_of c w ≡ p → IsPlain p (act_result S w c.next p (get_or c.recs (target p) no_rec)) → Numbered (micro_at S c w p)
+    plain_at p e h = plain (target p) p (act_result S w c.next p (get_or c.recs (target p) no_rec)) e h.0 h.1 h.2 h.3
 
     first_load_plain : (q : ℕ) (reads : List Read) (r : ℕ) (x : Rec) (h : Option ℕ) → IsPlain (Wanting q reads r) (first_load_of w q reads r x h)
     first_load_plain q reads r x None = (refl, refl, refl, λ h. 0)
@@ -209,7 +208,7 @@ module _ (first : ℕ → ℕ) where
     micro_numbered (Refusing q (y ∷ todo)) e = plain_at (Refusing q (y ∷ todo)) e (refl, refl, refl, λ h. 0)
     micro_numbered (Refusing q []) e = plain_at (Refusing q []) e (refl, refl, refl, λ h. 0)
 
-  latest_more : (p : Phase) (v n : ℕ) (xs : List Item) → Latest p v xs n → Latest p v xs (suc n)
+  latest_more : (p : Phase) (v n : ℕ) (xs : List CoreItem) → Latest p v xs n → Latest p v xs (suc n)
   latest_more (Rest q) v n xs h = 0
   latest_more (Asking q reads) v n xs h = 0
   latest_more (Wanting q reads r) v n xs h = 0
@@ -230,9 +229,9 @@ module _ (first : ℕ → ℕ) where
       })
       (λ t. g)
 
-  -- at the opening each worker rests before its first request
+  -- at the opening_core each worker rests before its first request
   pub opening_numbered : (S : Setting) (recs : List Rec) (workers : List Phase) → ((w : ℕ) → w < length workers → get_or workers w (Rest 0) ≡ Rest (first w))
-      → ((w : ℕ) → Latest (get_or workers w (Rest 0)) w [] S.base) → Numbered (opening S recs workers)
+      → ((w : ℕ) → Latest (get_or workers w (Rest 0)) w [] S.base) → Numbered (opening_core S recs workers)
   opening_numbered S recs workers h l = record {
     count = λ w. 0;
     lists = λ w. refl;

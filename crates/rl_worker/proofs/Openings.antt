@@ -7,9 +7,12 @@ use Rattle.rl_value.specs.Tables.{Table, size_of, columns_of}
 use Rattle.rl_tables.specs.Numbers.{sizes_of, place_of}
 use Rattle.rl_txn.proofs.Folds.{range_push}
 use Rattle.rl_worker.specs.declared.words.Record.{Record}
-use Rattle.rl_worker.specs.Opening.{cells_of, opening_rec}
+use Rattle.rl_value.specs.Cells.{cells_of}
+use Rattle.rl_worker.specs.Opening.{opening_rec}
 use Rattle.rl_worker.specs.Acts.{no_rec}
-use Rattle.rl_worker.specs.Workers.{RecordFits, RowHas, found}
+use Rattle.rl_worker.specs.Workers.{RecordFits}
+use Rattle.rl_txn.specs.Fits.{RowHas}
+use Rattle.rl_worker.specs.Told.{found}
 use Rattle.rl_worker.proofs.Commits.{cells_length}
 use Rattle.rl_worker.proofs.Settings.{all_get}
 use Rattle.rl_value.specs.Fits.{RowsFit}

@@ -18,8 +18,11 @@ use Rattle.rl_worker.specs.declared.reading.Reading.{Reading}
 use Rattle.rl_worker.specs.declared.words.Words.{Words}
 use Rattle.rl_worker.specs.Phases.{Read, Rec, Rest, Asking, Loading, Setting, with_read}
 use Rattle.rl_worker.specs.Acts.{quiet, lost, Changed, confirm_of}
-use Rattle.rl_worker.specs.Opening.{overlay_of, row_of}
-use Rattle.rl_worker.specs.Workers.{found, word, reading_phase, IsAct}
+use Rattle.rl_worker.specs.Opening.{overlay_of}
+use Rattle.rl_value.specs.Cells.{row_of}
+use Rattle.rl_worker.specs.Told.{found, word}
+use Rattle.rl_worker.specs.Workers.{reading_phase}
+use Rattle.rl_worker.specs.Attempts.{IsAct}
 use Rattle.rl_worker.proofs.Commits.{act_at, set_found}
 
 equal : (o : Ordering) → is_eq o ≡ true → o ≡ Equal

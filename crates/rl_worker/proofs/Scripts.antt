@@ -2,8 +2,8 @@
 use Rattle.std.proofs.Common.{◌≡◌, ℕ, zero, suc, ◌+◌, List, [], ◌∷◌, ◌++◌, map, get_or, nat_le, ◌==◌, if◌then◌else◌, Some, None, refl, replicate}
 use Rattle.rl_txn.specs.declared.write.End.TheVariants.{Done}
 use Rattle.rl_worker.specs.Phases.{Answer, Read, Rec, Outcome, Wants, Ends, Rest, Setting}
-use Rattle.rl_worker.specs.Items.{Item}
-use Rattle.rl_worker.specs.Acts.{Core, Locked, Changed, Turn, Step, opening, run}
+use Rattle.rl_worker.specs.Items.{CoreItem}
+use Rattle.rl_worker.specs.Acts.{Core, Locked, Changed, Turn, Step, opening_core, after_turns}
 
 no_answer : Answer
 no_answer = (record { outs = []; end = Done }, [])
@@ -18,19 +18,17 @@ steps w n = replicate n (Step w)
 abbrev first_stamp : ℕ
 first_stamp = 1099511627778
 
-abbrev after_turns : (ℕ → ℕ → List Read → Outcome) → List Rec → List Turn → Core
-after_turns ask recs turns =
+abbrev schedule : (ℕ → ℕ → List Read → Outcome) → List Rec → List Turn → Core
+schedule ask recs turns =
     let S : Setting = record {
       there = λ w q. q == 1;
       ask = ask;
-      width = λ r. 2;
-      start = λ r. get_or recs r (free 0 []);
       base = first_stamp;
       last = 2199023255551;
-    } in run S (opening S recs (Rest 0 ∷ Rest 1 ∷ Rest 1 ∷ [])) turns
+    } in after_turns S (opening_core S recs (Rest 0 ∷ Rest 1 ∷ Rest 1 ∷ [])) turns
 
 abbrev stamps : Core → List (ℕ × ℕ)
-stamps c = map {B = ℕ × ℕ} (λ (x : Item). (x.stamp, x.worker)) c.decided
+stamps c = map {B = ℕ × ℕ} (λ (x : CoreItem). (x.stamp, x.worker)) c.decided
 
 -- both workers add 1 to the one column of record 0
 abbrev adds : ℕ → ℕ → List Read → Outcome
@@ -39,7 +37,7 @@ adds w q (x ∷ xs) = Ends (record { outs = []; end = Done }, []) (record { rec 
 
 -- one that read before the other wrote is refused after its draw, and its seq is lost
 one_refused : Core
-one_refused = after_turns adds (free 0 (1 ∷ 10 ∷ []) ∷ []) (steps 2 4 ++ steps 1 10 ++ steps 2 3 ++ steps 2 11)
+one_refused = schedule adds (free 0 (1 ∷ 10 ∷ []) ∷ []) (steps 2 4 ++ steps 1 10 ++ steps 2 3 ++ steps 2 11)
 
 changed_stamps : stamps one_refused ≡ (first_stamp, 1) ∷ (first_stamp + 2, 2) ∷ []
 unfolding one_refused
@@ -55,7 +53,7 @@ changed_cells = refl
 
 -- one that finds the other's lock is refused with no lock held
 one_locked : Core
-one_locked = after_turns adds (free 0 (1 ∷ 10 ∷ []) ∷ []) (steps 1 5 ++ steps 2 1 ++ steps 1 5 ++ steps 2 10)
+one_locked = schedule adds (free 0 (1 ∷ 10 ∷ []) ∷ []) (steps 1 5 ++ steps 2 1 ++ steps 1 5 ++ steps 2 10)
 
 locked_stamps : stamps one_locked ≡ (first_stamp, 1) ∷ (first_stamp + 1, 2) ∷ []
 unfolding one_locked
@@ -75,7 +73,7 @@ skews w q (x ∷ y ∷ zs) =
 
 -- write skew: the first to validate finds the other's lock, and its second attempt declines
 skewed : Core
-skewed = after_turns skews (free 0 (1 ∷ 1 ∷ []) ∷ free 0 (1 ∷ 1 ∷ []) ∷ []) (steps 1 8 ++ steps 2 8 ++ steps 1 2 ++ steps 2 2 ++ steps 1 2 ++ steps 1 1 ++ steps 2 5 ++ steps 1 11)
+skewed = schedule skews (free 0 (1 ∷ 1 ∷ []) ∷ free 0 (1 ∷ 1 ∷ []) ∷ []) (steps 1 8 ++ steps 2 8 ++ steps 1 2 ++ steps 2 2 ++ steps 1 2 ++ steps 1 1 ++ steps 2 5 ++ steps 1 11)
 
 skewed_stamps : stamps skewed ≡ (first_stamp + 1, 2) ∷ (first_stamp + 2, 1) ∷ []
 unfolding skewed
@@ -93,9 +91,9 @@ pair w q (x ∷ xs) = Ends (record { outs = get_or x.row 1 0 ∷ get_or x.row 2 
 
 -- no torn row: the read that began before the write is refused, and its second attempt has both new columns
 torn : Core
-torn = after_turns pair (free 0 (1 ∷ 1 ∷ 1 ∷ []) ∷ []) (steps 2 3 ++ steps 1 6 ++ steps 2 2 ++ steps 2 7)
+torn = schedule pair (free 0 (1 ∷ 1 ∷ 1 ∷ []) ∷ []) (steps 2 3 ++ steps 1 6 ++ steps 2 2 ++ steps 2 7)
 
-torn_outs : map (λ (x : Item). x.answer.0.outs) torn.decided ≡ [] ∷ (2 ∷ 2 ∷ []) ∷ []
+torn_outs : map (λ (x : CoreItem). x.answer.0.outs) torn.decided ≡ [] ∷ (2 ∷ 2 ∷ []) ∷ []
 unfolding torn
 torn_outs = refl
 

@@ -20,11 +20,11 @@ use Rattle.rl_txn.specs.declared.eval.Wants as eval
 use Rattle.rl_txn.specs.declared.eval.Wants.TheVariants.{Read as WantsRead, Ended as WantsEnded}
 use Rattle.rl_txn.specs.declared.write.End.{End}
 use Rattle.rl_txn.specs.declared.write.Write.{Write}
-use Rattle.rl_worker.specs.Phases.{Answer, Read, Install, Rec, Wants, Ends, Rest, Setting, has}
-use Rattle.rl_worker.proofs.OwnLaw.{Distinct, Widths, Lawful}
+use Rattle.rl_worker.specs.Phases.{Answer, Read, Install, Rec, Wants, Ends, Rest, Setting}
 use Rattle.rl_worker.specs.Acts.{no_rec}
-use Rattle.rl_worker.proofs.OwnLaw.{AllFree, AllRest, Opens, RestAt}
-use Rattle.rl_worker.specs.Opening.{cells_of, overlay_of, install_of, outcome_of, outcome, request, asks, opening_rec, opening_recs, setting_of, first_of, at_rest, CoreFits}
+use Rattle.rl_value.specs.Cells.{cells_of}
+use Rattle.rl_worker.specs.Opening.{overlay_of, install_of, outcome_of, outcome, request, asks, opening_rec, opening_recs, setting_of, first_of, at_rest, OpenLeader, CoreFits}
+use Rattle.rl_worker.proofs.OwnLaw.{Ground, Distinct, Widths, Lawful, AllFree, AllRest, Opens, RestAt, has}
 use Rattle.rl_worker.proofs.Writes.{RowFits, WriteFits, WritesFit, run_fits, run_distinct, place_of_write}
 
 pub sizes_length : (tables : List Table) → length (sizes_of tables) ≡ length tables
@@ -74,12 +74,32 @@ request_fits tables lists fits w q txn e = go (numbered lists w) refl e
     go None f e = absurd (cc)
     go (Some list) f e = all_numbered (TxnFits tables) list q txn e (all_numbered (All (TxnFits tables)) lists w list f fits.each)
 
-module _ (tables : List Table) (lists : List (List (List Op))) (rows : Rows) (stamps : List ℕ) (epoch : ℕ) (fits : CoreFits tables lists rows stamps epoch) where
-  abbrev S : Setting
-  S = setting_of tables lists rows stamps epoch
+module _ (l : OpenLeader) (fits : CoreFits l) where
+  abbrev tables : List Table
+  tables = l.tables
+
+  abbrev lists : List (List (List Op))
+  lists = l.lists
+
+  abbrev rows : Rows
+  rows = l.rows
+
+  abbrev stamps : List ℕ
+  stamps = l.stamps
+
+  abbrev epoch : ℕ
+  epoch = l.epoch
 
   abbrev recs : List Rec
   recs = opening_recs tables rows stamps
+
+  -- the setting with the records as they open
+  abbrev pub ground : Ground
+  ground = record {
+    setting = setting_of tables lists epoch;
+    width = λ r. length (get_or recs r no_rec).cells;
+    start = λ r. get_or recs r no_rec;
+  }
 
   pub length_recs : length recs ≡ sum (sizes_of tables)
   length_recs = length-map-range_with_len (opening_rec tables rows stamps) 0 (sum (sizes_of tables))
@@ -117,7 +137,7 @@ module _ (tables : List Table) (lists : List (List (List Op))) (rows : Rows) (st
       ap (λ (x : Rec). x.cells) (rec_at r (write_within w f)) ∙ ap (λ (p : ℕ × ℕ). cells_of (columns_of tables p.0) (finite.get rows p)) place in
       cell_length tables (columns_of tables w.table) w.row f.2 ∙ sym (ap length cells ∙ cell_length tables (columns_of tables w.table) (finite.get rows (w.table, w.key)) (row_here w.table w.key))
 
-  widths : (ws : List Write) → WritesFit tables ws → Widths S (map (install_of tables) ws)
+  widths : (ws : List Write) → WritesFit tables ws → Widths ground (map (install_of tables) ws)
   widths [] h = 0
   widths (w ∷ ws) h = (width_is w h.0, widths ws h.1)
 
@@ -128,7 +148,7 @@ module _ (tables : List Table) (lists : List (List (List Op))) (rows : Rows) (st
     | inr n ↦ inside ws h.1 r (rw n.0 at e)
   ]
 
-  pub lawful : Lawful S
+  pub lawful : Lawful ground
   lawful = record {
     early = early;
     widths = λ r. refl;
@@ -138,7 +158,7 @@ module _ (tables : List Table) (lists : List (List (List Op))) (rows : Rows) (st
         let own = rows_of (overlay_of tables reads) in
         let are : writes ≡ map (install_of tables) (run tables d.txn own).1 = d.writes_are ∙ ap (λ (a : Answer). map (install_of tables) a.1) d.answer_is in (
           subst Distinct (sym are) (run_distinct tables (size_at tables) (sizes_length tables) d.txn own txn_fits),
-          subst (Widths S) (sym are) (widths (run tables d.txn own).1 (run_fits tables d.txn own txn_fits)),
+          subst (Widths ground) (sym are) (widths (run tables d.txn own).1 (run_fits tables d.txn own txn_fits)),
         );
   }
 
@@ -150,10 +170,10 @@ module _ (tables : List Table) (lists : List (List (List Op))) (rows : Rows) (st
   all_rest [] = 0
   all_rest (x ∷ xs) = (refl, all_rest xs)
 
-  pub opens : (firsts : List ℕ) → Opens S recs (at_rest firsts)
-  opens firsts = record {
+  pub opens : Opens ground recs (at_rest l.firsts)
+  opens = record {
     free = all_free (range_with_len 0 (sum (sizes_of tables)));
-    rests = (refl, all_rest firsts);
+    rests = (refl, all_rest l.firsts);
     start_is = λ r. refl;
     inside = λ w q reads answer writes e r h.
         let d = ending tables lists w q reads answer writes e in

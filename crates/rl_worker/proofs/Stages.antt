@@ -12,7 +12,8 @@ use Rattle.rl_worker.specs.declared.worker.Stage.TheVariants as stage
 use Rattle.rl_worker.specs.declared.worker.Worker.{Worker}
 use Rattle.rl_worker.specs.Phases.{Rest, Wants, Setting}
 use Rattle.rl_worker.specs.Acts.{no_rec}
-use Rattle.rl_worker.specs.Workers.{reading_phase, reading_left, commit_phase, phase_of, IsAct, CommitFits, IsOfAttempt, IsCommitting, decided, is_over, decided_at, ended, finished, Commits}
+use Rattle.rl_worker.specs.Workers.{reading_phase, commit_phase, phase_of_worker, CommitFits, decided_at}
+use Rattle.rl_worker.specs.Attempts.{reading_left, IsAct, IsOfAttempt, IsCommitting, decided, is_over, ended_worker, finished, Commits}
 
 pub left_rest : (q : ℕ) (r : Reading) (o : Option Refusal) → is_some o ≡ true → reading_left q r o ≡ Rest q
 left_rest q r None e = absurd (false≢true e)
@@ -24,14 +25,14 @@ left_same q r (Some f) e = absurd (false≢true (sym e))
 
 -- some setting
 pub no_setting : Setting
-no_setting = record { there = λ w q. false; ask = λ w q reads. Wants 0; width = λ r. 0; start = λ r. no_rec; base = 0; last = 0 }
+no_setting = record { there = λ w q. false; ask = λ w q reads. Wants 0; base = 0; last = 0 }
 
 -- a commit acted, and is over or goes on
 pub committed : (tables : List Table) (old new : Worker) (words words' : Words) (was to d : Commit) (told : code.Moved) (item : Option Item) (b : Bool)
     → old.stage ≡ stage.Committing was → IsCommitting tables old old.stage
     → ((s : Setting) → IsAct s was.item.worker was.item.stamp.epoch (commit_phase tables was) (commit_phase tables to) words words' told)
     → IsOfAttempt was to → CommitFits tables to → d ≡ decided to → is_over d d.part ≡ b
-    → new ≡ (if b then ended old d else record old { stage = stage.Committing d }) → item ≡ (if b then decided_at (stage.Committing d) else None)
+    → new ≡ (if b then ended_worker old d else record old { stage = stage.Committing d }) → item ≡ (if b then decided_at (stage.Committing d) else None)
     → Commits tables old new words words' (record told { ended = item })
 committed tables old new words words' was to d told item b old_is commits act attempt fits d_is over new_is ended_is =
     let mine : IsCommitting tables old (stage.Committing was) = subst (IsCommitting tables old) old_is commits in
@@ -40,13 +41,13 @@ committed tables old new words words' was to d told item b old_is commits act at
       to = to;
       old_is = old_is;
       act = λ s.
-          let a : IsAct s old.number old.epoch (phase_of tables old) (commit_phase tables to) words words' told =
-          subst (λ st. IsAct s old.number old.epoch (phase_of tables (record old { stage = st })) (commit_phase tables to) words words' told) (sym old_is)
+          let a : IsAct s old.number old.epoch (phase_of_worker tables old) (commit_phase tables to) words words' told =
+          subst (λ st. IsAct s old.number old.epoch (phase_of_worker tables (record old { stage = st })) (commit_phase tables to) words words' told) (sym old_is)
           (subst (λ n. IsAct s n old.epoch (commit_phase tables was) (commit_phase tables to) words words' told) mine.1
           (subst (λ e. IsAct s was.item.worker e (commit_phase tables was) (commit_phase tables to) words words' told) mine.3 (act s))) in
           record { phase = a.phase; recs = a.recs; next = a.next; refused = a.refused; act = a.act; ended = refl };
       attempt = attempt;
       fits = fits;
-      new_is = new_is ∙ ap (λ c. if c then ended old d else record old { stage = stage.Committing d }) (sym over) ∙ ap (finished old) d_is;
+      new_is = new_is ∙ ap (λ c. if c then ended_worker old d else record old { stage = stage.Committing d }) (sym over) ∙ ap (finished old) d_is;
       ended = ended_is ∙ ap (λ c. if c then decided_at (stage.Committing d) else None) (sym over) ∙ ap (λ z. if is_over z z.part then decided_at (stage.Committing z) else None) d_is;
     }

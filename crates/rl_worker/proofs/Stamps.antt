@@ -1,22 +1,23 @@
 -- The acts that change the log: a draw, a decision, a refusal after the draw.
 use Rattle.std.proofs.Common.{◌≡◌, ◌≢◌, ◌⊎◌, ℕ, suc, ◌<◌, ◌≤◌, List, [], ◌∷◌, ◌++◌, true, false, not, ◌==◌, Option, Some, None, refl, sym, ap, ◌∙◌, subst, arith, inl, inr, true≢false, append-nil, eq-eqb, eqb-true}
 use Rattle.std.proofs.lemmas.Bool.Decides.{eqb_tells}
-use Rattle.rl_worker.proofs.States.{Answer, Read, Install, Void, Drawn, Decided, Entry, Phase, Locking, Validating, Storing, Refusing, State, Setting, upd, has, row_at, live, decided, draws, ends, other}
+use Rattle.rl_worker.proofs.States.{Answer, Read, Install, Void, Drawn, Decided, Entry, Phase, Locking, Validating, Storing, Refusing, State, upd, has, row_at, live, decided, draws, ends, other}
 use Rattle.rl_worker.proofs.Inv.{held, stores, pending, settled_by, settled, Alone, Knows, Final, Inv}
 use Rattle.rl_worker.proofs.Basics.{upd_same, upd_other, by_upd, has_dec}
 use Rattle.rl_worker.proofs.Keeps.{Keeps, final_kept, seen_kept, all_alone_kept}
 use Rattle.rl_worker.proofs.Local.{decided_lives, settled_goes, Lawful}
 use Rattle.rl_worker.proofs.Installs.{knows_all, pending_holds, both, stored_none}
+use Rattle.rl_worker.proofs.OwnLaw.{Ground}
 
 pub settled_less : (ws : ℕ → Phase) (w : ℕ) (p : Phase) (h : Option ℕ) (r : ℕ) → stores (ws w) r ≡ false → settled_by (upd ws w p) h r ≡ true → settled_by ws h r ≡ true
 settled_less ws w p None r e = λ s. refl
 settled_less ws w p (Some v) r e = by_upd (λ x. not (stores x r) ≡ true → not (stores (ws v) r) ≡ true) ws w p v (λ i s. rw (i, e) refl) (λ n s. s)
 
-module _ (S : Setting) (L : Lawful S) where
+module _ (G : Ground) (L : Lawful G) where
   -- what a read saw is alone below the stamp, once the word is found unchanged
-  pub alone_now : (σ : State) (w q t : ℕ) (done : List Read) (x : Read) (todo : List Read) (answer : Answer) (writes : List Install) → Inv S σ
+  pub alone_now : (σ : State) (w q t : ℕ) (done : List Read) (x : Read) (todo : List Read) (answer : Answer) (writes : List Install) → Inv G σ
       → σ.workers w ≡ Validating q t done (x ∷ todo) answer writes → other w (σ.recs x.rec).holder ≡ false → (σ.recs x.rec).stamp ≡ x.seen
-      → Alone S σ t x.rec x.seen
+      → Alone G σ t x.rec x.seen
   alone_now σ w q t done x todo answer writes inv e free same = λ u a b l. elim (has_dec x.rec (σ.log u).writes) [
     | inr no_ ↦ no_
     | inl h ↦ absurd (elim (inv.drawn u x.rec l h) [ inl c ↦ omega arith | inr p ↦ pending_not u b p ])
@@ -27,12 +28,12 @@ module _ (S : Setting) (L : Lawful S) where
 
       pending_not : (u : ℕ) → u < t → pending (σ.workers (σ.log u).worker) u x.rec ≡ true → ⊥
       pending_not u b p =
-          let self : (σ.log u).worker ≡ w = mine (σ.log u).worker (pending_holds S L σ (σ.log u).worker u x.rec (σ.workers (σ.log u).worker) (inv.knows (σ.log u).worker) p) in
+          let self : (σ.log u).worker ≡ w = mine (σ.log u).worker (pending_holds G L σ (σ.log u).worker u x.rec (σ.workers (σ.log u).worker) (inv.knows (σ.log u).worker) p) in
           let same_stamp : u ≡ t = eqb-true u t (both (u == t) (has x.rec writes) (rw (self, e) at p)).0 in
           omega arith
 
   -- ---- draw ----
-  module _ (σ : State) (w q : ℕ) (reads : List Read) (answer : Answer) (locked : List Install) (inv : Inv S σ) (e : σ.workers w ≡ Locking q reads answer locked []) where
+  module _ (σ : State) (w q : ℕ) (reads : List Read) (answer : Answer) (locked : List Install) (inv : Inv G σ) (e : σ.workers w ≡ Locking q reads answer locked []) where
     abbrev draw_phase : Phase
     draw_phase = Validating q σ.next [] reads answer locked
 
@@ -42,7 +43,7 @@ module _ (S : Setting) (L : Lawful S) where
     abbrev draw_state : State
     draw_state = draws σ draw_entry w draw_phase
 
-    draw_knows : Knows S σ w (Locking q reads answer locked [])
+    draw_knows : Knows G σ w (Locking q reads answer locked [])
     draw_knows = rw e at (inv.knows w)
 
     draw_old : (t : ℕ) → t < σ.next → draw_state.log t ≡ σ.log t
@@ -54,7 +55,7 @@ module _ (S : Setting) (L : Lawful S) where
     draw_decided : (t : ℕ) → decided (draw_state.log t).status ≡ true → t < σ.next
     draw_decided t = by_upd (λ z. decided z.status ≡ true → t < σ.next) σ.log σ.next draw_entry t (λ i d. absurd (true≢false (sym d))) (λ n d. (inv.past t (decided_lives (σ.log t).status d)).1)
 
-    draw_keeps : Keeps S σ draw_state w
+    draw_keeps : Keeps G σ draw_state w
     draw_keeps = record {
       next_up = omega arith;
       version = λ r v row h. elim h [ inl a ↦ inl a | inr b ↦ inr (rw (draw_old v (inv.past v (decided_lives (σ.log v).status b.0)).1) b) ];
@@ -66,13 +67,13 @@ module _ (S : Setting) (L : Lawful S) where
       writes = λ u a. ap (λ z. z.writes) (draw_old u a);
     }
 
-    pub draw_inv : Inv S draw_state
+    pub draw_inv : Inv G draw_state
     draw_inv =
         let kn = draw_knows in
         record {
-          knows = knows_all S L σ draw_state w draw_phase inv draw_keeps (record {
+          knows = knows_all G L σ draw_state w draw_phase inv draw_keeps (record {
             logged = upd_same σ.log σ.next draw_entry;
-            seen = seen_kept S σ draw_state w draw_keeps σ.next σ.next (omega arith) reads kn.reads_ok.seen;
+            seen = seen_kept G σ draw_state w draw_keeps σ.next σ.next (omega arith) reads kn.reads_ok.seen;
             alone = 0;
             ends = rw append-nil at kn.ends;
             holds = kn.holds;
@@ -90,14 +91,14 @@ module _ (S : Setting) (L : Lawful S) where
                 | inl a ↦ inl a
                 | inr b ↦ inr (by_upd (λ x. pending x t r ≡ true) σ.workers w draw_phase (σ.log t).worker (λ i. absurd (true≢false (sym (rw (i, e) at b)))) (λ m. b))
               ]);
-          past = λ t. by_upd (λ z. live z.status ≡ true → (S.base ≤ t) × (t < suc σ.next)) σ.log σ.next draw_entry t
+          past = λ t. by_upd (λ z. live z.status ≡ true → (G.setting.base ≤ t) × (t < suc σ.next)) σ.log σ.next draw_entry t
               (λ i l. (omega (arith, inv.based), omega arith)) (λ n l. ((inv.past t l).0, omega (arith, (inv.past t l).1)));
           final = λ t d. let a : t < σ.next = draw_decided t d in
-              final_kept S σ draw_state w draw_keeps t (omega arith) (draw_old t a) (inv.final t (rw (draw_old t a) at d));
+              final_kept G σ draw_state w draw_keeps t (omega arith) (draw_old t a) (inv.final t (rw (draw_old t a) at d));
         }
 
   -- ---- a decision ----
-  module _ (σ : State) (w q t : ℕ) (done : List Read) (answer : Answer) (writes : List Install) (inv : Inv S σ) (e : σ.workers w ≡ Validating q t done [] answer writes) where
+  module _ (σ : State) (w q t : ℕ) (done : List Read) (answer : Answer) (writes : List Install) (inv : Inv G σ) (e : σ.workers w ≡ Validating q t done [] answer writes) where
     abbrev decide_phase : Phase
     decide_phase = Storing q t 0 writes
 
@@ -107,7 +108,7 @@ module _ (S : Setting) (L : Lawful S) where
     abbrev decide_state : State
     decide_state = ends σ t Decided w decide_phase
 
-    decide_knows : Knows S σ w (Validating q t done [] answer writes)
+    decide_knows : Knows G σ w (Validating q t done [] answer writes)
     decide_knows = rw e at (inv.knows w)
 
     decide_logged : σ.log t ≡ record { worker = w; index = q; reads = done; answer = answer; writes = writes; status = Drawn }
@@ -128,7 +129,7 @@ module _ (S : Setting) (L : Lawful S) where
     decide_settled : (r : ℕ) → settled decide_state r ≡ true → settled σ r ≡ true
     decide_settled r = settled_less σ.workers w decide_phase (σ.recs r).holder r (rw e refl)
 
-    decide_keeps : Keeps S σ decide_state w
+    decide_keeps : Keeps G σ decide_state w
     decide_keeps = record {
       next_up = omega arith;
       version = λ r v row h. elim h [
@@ -146,12 +147,12 @@ module _ (S : Setting) (L : Lawful S) where
     decide_here : decide_state.log t ≡ record { worker = w; index = q; reads = done; answer = answer; writes = writes; status = Decided }
     decide_here = upd_same σ.log t decide_entry ∙ ap (λ (z : Entry). record z { status = Decided }) decide_logged
 
-    decide_final : Final S decide_state t
+    decide_final : Final G decide_state t
     decide_final =
         let kn = decide_knows in
         record {
-          seen = rw decide_here (seen_kept S σ decide_state w decide_keeps t t (omega arith) done (rw append-nil at kn.seen));
-          alone = rw decide_here (all_alone_kept S σ decide_state w decide_keeps t (omega (arith, kn.past)) done kn.alone);
+          seen = rw decide_here (seen_kept G σ decide_state w decide_keeps t t (omega arith) done (rw append-nil at kn.seen));
+          alone = rw decide_here (all_alone_kept G σ decide_state w decide_keeps t (omega (arith, kn.past)) done kn.alone);
           ends = rw decide_here (rw append-nil at kn.ends);
         }
 
@@ -161,12 +162,12 @@ module _ (S : Setting) (L : Lawful S) where
     decide_drawn : (u v r : ℕ) → (u ≤ (σ.recs r).stamp) ⊎ (pending (σ.workers v) u r ≡ true) → (u ≤ (σ.recs r).stamp) ⊎ (pending (upd σ.workers w decide_phase v) u r ≡ true)
     decide_drawn u v r d = elim d [ inl a ↦ inl a | inr b ↦ inr (decide_pending v u r b) ]
 
-    pub decide_inv : Inv S decide_state
+    pub decide_inv : Inv G decide_state
     decide_inv =
         let kn = decide_knows in
         let lawful = L.ends_ok w q (done ++ []) answer writes kn.ends in
         record {
-          knows = knows_all S L σ decide_state w decide_phase inv decide_keeps (record {
+          knows = knows_all G L σ decide_state w decide_phase inv decide_keeps (record {
             worker = ap (λ z. z.worker) decide_here;
             status = ap (λ z. decided z.status) decide_here;
             rows_are = λ r h. ap (λ z. row_at r z.writes) (sym decide_here);
@@ -175,7 +176,7 @@ module _ (S : Setting) (L : Lawful S) where
             past = kn.past;
             distinct = lawful.0;
             widths = lawful.1;
-            stored = stored_none decide_state writes S;
+            stored = stored_none decide_state writes G;
           });
           owner = λ r v h. by_upd (λ z. held z r ≡ true) σ.workers w decide_phase v (λ i. rw (i, e) at (inv.owner r v h)) (λ n. inv.owner r v h);
           width_is = inv.width_is;
@@ -185,16 +186,16 @@ module _ (S : Setting) (L : Lawful S) where
           drawn = λ u r. by_upd (λ z. live z.status ≡ true → has r z.writes ≡ true → (u ≤ (σ.recs r).stamp) ⊎ (pending (upd σ.workers w decide_phase z.worker) u r ≡ true)) σ.log t decide_entry u
               (λ i l h. decide_drawn u (σ.log t).worker r (subst (λ z. (u ≤ (σ.recs r).stamp) ⊎ (pending (σ.workers (σ.log z).worker) u r ≡ true)) i (inv.drawn u r (rw i decide_live) (rw i h))))
               (λ n l h. decide_drawn u (σ.log u).worker r (inv.drawn u r l h));
-          past = λ u. by_upd (λ z. live z.status ≡ true → (S.base ≤ u) × (u < σ.next)) σ.log t decide_entry u (λ i l. inv.past u (rw i decide_live)) (λ n l. inv.past u l);
+          past = λ u. by_upd (λ z. live z.status ≡ true → (G.setting.base ≤ u) × (u < σ.next)) σ.log t decide_entry u (λ i l. inv.past u (rw i decide_live)) (λ n l. inv.past u l);
           final = λ u d. elim (eqb_tells u t) [
-            | inl i ↦ subst (λ z. Final S decide_state z) (sym i.1) decide_final
+            | inl i ↦ subst (λ z. Final G decide_state z) (sym i.1) decide_final
             | inr n ↦ (let d2 : decided (σ.log u).status ≡ true = rw (decide_old u n.1) at d in
-                final_kept S σ decide_state w decide_keeps u (omega (arith, (inv.past u (decided_lives (σ.log u).status d2)).1)) (decide_old u n.1) (inv.final u d2))
+                final_kept G σ decide_state w decide_keeps u (omega (arith, (inv.past u (decided_lives (σ.log u).status d2)).1)) (decide_old u n.1) (inv.final u d2))
           ];
         }
 
   -- ---- a refusal after the draw ----
-  module _ (σ : State) (w q t : ℕ) (done todo : List Read) (answer : Answer) (writes : List Install) (inv : Inv S σ) (e : σ.workers w ≡ Validating q t done todo answer writes) where
+  module _ (σ : State) (w q t : ℕ) (done todo : List Read) (answer : Answer) (writes : List Install) (inv : Inv G σ) (e : σ.workers w ≡ Validating q t done todo answer writes) where
     abbrev void_phase : Phase
     void_phase = Refusing q writes
 
@@ -204,7 +205,7 @@ module _ (S : Setting) (L : Lawful S) where
     abbrev void_state : State
     void_state = ends σ t Void w void_phase
 
-    void_knows : Knows S σ w (Validating q t done todo answer writes)
+    void_knows : Knows G σ w (Validating q t done todo answer writes)
     void_knows = rw e at (inv.knows w)
 
     void_worker : (σ.log t).worker ≡ w
@@ -222,7 +223,7 @@ module _ (S : Setting) (L : Lawful S) where
     void_settled : (r : ℕ) → settled void_state r ≡ settled σ r
     void_settled r = settled_goes σ.workers w void_phase (σ.recs r).holder r (rw e refl)
 
-    void_keeps : Keeps S σ void_state w
+    void_keeps : Keeps G σ void_state w
     void_keeps = record {
       next_up = omega arith;
       version = λ r v row h. elim h [
@@ -243,11 +244,11 @@ module _ (S : Setting) (L : Lawful S) where
       | inr b ↦ inr (by_upd (λ x. pending x u r ≡ true) σ.workers w void_phase v (λ i. absurd (n (eqb-true u t (both (u == t) (has r writes) (rw (i, e) at b)).0))) (λ m. b))
     ]
 
-    pub void_inv : Inv S void_state
+    pub void_inv : Inv G void_state
     void_inv =
         let kn = void_knows in
         record {
-          knows = knows_all S L σ void_state w void_phase inv void_keeps (record { holds = kn.holds; distinct = (L.ends_ok w q (done ++ todo) answer writes kn.ends).0 });
+          knows = knows_all G L σ void_state w void_phase inv void_keeps (record { holds = kn.holds; distinct = (L.ends_ok w q (done ++ todo) answer writes kn.ends).0 });
           owner = λ r v h. by_upd (λ z. held z r ≡ true) σ.workers w void_phase v (λ i. rw (i, e) at (inv.owner r v h)) (λ n. inv.owner r v h);
           width_is = inv.width_is;
           based = inv.based;
@@ -256,8 +257,8 @@ module _ (S : Setting) (L : Lawful S) where
           drawn = λ u r. by_upd (λ z. live z.status ≡ true → has r z.writes ≡ true → (u ≤ (σ.recs r).stamp) ⊎ (pending (upd σ.workers w void_phase z.worker) u r ≡ true)) σ.log t void_entry u
               (λ i l h. absurd (true≢false (sym l)))
               (λ n l h. void_drawn u (σ.log u).worker r n (inv.drawn u r l h));
-          past = λ u. by_upd (λ z. live z.status ≡ true → (S.base ≤ u) × (u < σ.next)) σ.log t void_entry u (λ i l. inv.past u (rw i void_live)) (λ n l. inv.past u l);
-          final = λ u. by_upd (λ z. decided z.status ≡ true → Final S void_state u) σ.log t void_entry u
+          past = λ u. by_upd (λ z. live z.status ≡ true → (G.setting.base ≤ u) × (u < σ.next)) σ.log t void_entry u (λ i l. inv.past u (rw i void_live)) (λ n l. inv.past u l);
+          final = λ u. by_upd (λ z. decided z.status ≡ true → Final G void_state u) σ.log t void_entry u
               (λ i d. absurd (true≢false (sym d)))
-              (λ n d. final_kept S σ void_state w void_keeps u (omega (arith, (inv.past u (decided_lives (σ.log u).status d)).1)) (void_old u n) (inv.final u d));
+              (λ n d. final_kept G σ void_state w void_keeps u (omega (arith, (inv.past u (decided_lives (σ.log u).status d)).1)) (void_old u n) (inv.final u d));
         }

@@ -19,10 +19,12 @@ use Rattle.rl_worker.specs.declared.worker.Stage.{Stage}
 use Rattle.rl_worker.specs.declared.worker.Stage.TheVariants as stage
 use Rattle.rl_worker.specs.declared.worker.Worker.{Worker}
 use Rattle.rl_worker.specs.Phases.{Read, Install, Outcome, Wants, Ends, Phase, Rest, Asking, Wanting, Loading, Locking, Validating, Storing, Refusing, Setting, asked}
-use Rattle.rl_worker.specs.Acts as acts
 use Rattle.rl_worker.specs.Acts.{Core, passing, resting, micro, settle}
 use Rattle.rl_worker.specs.Opening.{install_of, outcome}
-use Rattle.rl_worker.specs.Workers.{installs, part_phase, commit_phase, reading_phase, stage_phase, phase_of, PartFits, HasMore, StageFits, IsAttemptOf, IsAct, is_storing, is_over, decided_in, decided, decided_at, decided_item, ended, finished, is_reading, confirmed_phase, ran_on, Confirms, Commits, IsActed, Loaded, Confirmed, Committed, Stands, Steps, stamp_next, either, newly_decided, core_item, joined, IsOf, stamp_by}
+use Rattle.rl_worker.specs.Workers.{installs, part_phase, commit_phase, reading_phase, stage_phase, phase_of_worker, PartFits, HasMore, StageFits, is_storing, decided_at, decided_item, Stands, stamp_next, either, newly_decided, with_item}
+use Rattle.rl_worker.specs.Attempts.{IsAttemptOf, IsAct, is_over, decided_in, decided, ended_worker, finished, is_reading, confirmed_phase, ran_on, Confirms, Commits, IsActed, Loaded, Confirmed, Committed}
+use Rattle.rl_worker.proofs.CodeItems.{core_item, IsOf, stamp_by, CodeSteps}
+use Rattle.rl_worker.specs.Acts as acts
 use Rattle.rl_worker.proofs.Cores.{passed, wins, index_in, At, acted, settled, stamps_added}
 
 -- nothing is passed in a phase in which a worker may stand
@@ -52,13 +54,13 @@ installs_length tables c = length-map c.item.writes (install_of tables)
 still_part : (tables : List Table) (c : Commit) (p : Part) → PartFits c p → HasMore c p → passing (part_phase tables c p) ≡ false
 still_part tables c (part.Locking held) f m = refl
 still_part tables c (part.Validating done) f m = some_left c.reads.0 done (λ ys. passing (Validating c.item.index (packed c.item.stamp) (take done c.reads.0) ys (c.item.reply, c.item.writes) (installs tables c)) ≡ false) m (λ y ys. refl)
-still_part tables c (part.Storing place stored) f m =
+still_part tables c (part.Storing closed stored) f m =
     let n = installs_length tables c in
-    some_left (installs tables c) place (λ ys. passing (Storing c.item.index (packed c.item.stamp) stored ys) ≡ false) (omega arith) (λ y ys. refl)
-still_part tables c (part.Refusing place held) f m =
+    some_left (installs tables c) closed (λ ys. passing (Storing c.item.index (packed c.item.stamp) stored ys) ≡ false) (omega arith) (λ y ys. refl)
+still_part tables c (part.Refusing closed held) f m =
     let n = installs_length tables c in
     let t = length-take-le held (installs tables c) (omega (arith, f.1)) in
-    some_left (take held (installs tables c)) place (λ ys. passing (Refusing c.item.index ys) ≡ false) (omega arith) (λ y ys. refl)
+    some_left (take held (installs tables c)) closed (λ ys. passing (Refusing c.item.index ys) ≡ false) (omega arith) (λ y ys. refl)
 
 still_reading : (q : ℕ) (r : Reading) → passing (reading_phase q r) ≡ false
 still_reading q r = go r.is_open
@@ -83,8 +85,8 @@ index_reading q r = go r.is_open
 index_part : (tables : List Table) (c : Commit) (p : Part) → index_in (part_phase tables c p) ≡ c.item.index
 index_part tables c (part.Locking held) = refl
 index_part tables c (part.Validating done) = refl
-index_part tables c (part.Storing place stored) = refl
-index_part tables c (part.Refusing place held) = refl
+index_part tables c (part.Storing closed stored) = refl
+index_part tables c (part.Refusing closed held) = refl
 
 index_stage : (tables : List Table) (txn : List Op) (w : Worker) (st : Stage) → StageFits tables txn w st → index_in (stage_phase tables w.index st) ≡ w.index
 index_stage tables txn w stage.Resting f = refl
@@ -102,8 +104,8 @@ same_index old new (Some x) e n = absurd (cc)
 -- what an act and what follows it come to, by the phase that the act leads to
 pub record Turned (tables : List Table) (s : Setting) (old new : Worker) (words words' : Words) (told : code.Moved) : Type 0 where
   pub to : Phase
-  pub act : IsAct s old.number old.epoch (phase_of tables old) to words words' (record told { ended = None })
-  pub phase : phase_of tables new ≡ passed s old.number (passed s old.number to)
+  pub act : IsAct s old.number old.epoch (phase_of_worker tables old) to words words' (record told { ended = None })
+  pub phase : phase_of_worker tables new ≡ passed s old.number (passed s old.number to)
   pub number : new.number ≡ old.number
   pub epoch : new.epoch ≡ old.epoch
   pub first : wins old.number to ≡ option_map (core_item tables) (newly_decided old new told)
@@ -116,10 +118,10 @@ pub record Turned (tables : List Table) (s : Setting) (old new : Worker) (words 
 -- then it is a step of the core
 pub turned : (tables : List Table) (txn : List Op) (s : Setting) (old new : Worker) (words words' : Words) (told : code.Moved) (core : Core)
     → StageFits tables txn old old.stage → Stands tables old words core → Turned tables s old new words words' told
-    → Steps tables old new words' told core (settle s (settle s (micro s core old.number) old.number) old.number)
+    → CodeSteps tables old new words' told core (settle s (settle s (micro s core old.number) old.number) old.number)
 turned tables txn s old new words words' told core fits st t =
     let w = old.number in
-    let p = phase_of tables old in
+    let p = phase_of_worker tables old in
     let at : At core w p words.records.items (stamp_next old.epoch words) = record { recs = st.recs; next = st.next; there = st.there; phase = st.phase } in
     let a = acted s core w old.epoch p t.to words words' (record told { ended = None }) (still tables txn old old.stage fits) at t.act in
     let b = settled s (micro s core w) w words'.records.items (stamp_next old.epoch words') t.to a.at in
@@ -137,7 +139,7 @@ turned tables txn s old new words words' told core fits st t =
       epoch = t.epoch;
       others = c.workers ∙ ap (λ ws. set ws w (passed s w (passed s w t.to))) (b.workers ∙ ap (λ ws. set ws w (passed s w t.to)) a.workers) ∙ ap (λ ws. set ws w (passed s w (passed s w t.to))) (set-set core.workers w t.to (passed s w t.to))
           ∙ set-set core.workers w (passed s w t.to) (passed s w (passed s w t.to)) ∙ ap (set core.workers w) (sym t.phase);
-      decided = c.decided ∙ ap (λ o. joined o (settle s (micro s core w) w).decided) t.second ∙ b.decided ∙ ap (λ o. joined o (micro s core w).decided) t.first ∙ ap (joined (option_map (core_item tables) (newly_decided old new told))) a.decided;
+      decided = c.decided ∙ ap (λ o. with_item o (settle s (micro s core w) w).decided) t.second ∙ b.decided ∙ ap (λ o. with_item o (micro s core w).decided) t.first ∙ ap (with_item (option_map (core_item tables) (newly_decided old new told))) a.decided;
       kept = t.kept;
       refusal = a.refusal;
       refusals = c.refusals ∙ b.refusals ∙ a.refusals;
@@ -149,7 +151,7 @@ turned tables txn s old new words words' told core fits st t =
       index = t.index;
     }
   where
-    go : (o : Option acts.Refusal) → IfSome o (λ f. (f.worker ≡ old.number) × (f.index ≡ index_in (phase_of tables old))) → IfSome o (λ f. (f.worker ≡ old.number) × (f.index ≡ old.index))
+    go : (o : Option acts.CoreRefusal) → IfSome o (λ f. (f.worker ≡ old.number) × (f.index ≡ index_in (phase_of_worker tables old))) → IfSome o (λ f. (f.worker ≡ old.number) × (f.index ≡ old.index))
     go None h = tt
     go (Some f) h = (h.0, h.1 ∙ index_stage tables txn old old.stage fits)
 
@@ -181,14 +183,14 @@ same_told : (s : Setting) (w e : ℕ) (p p' : Phase) (words words' : Words) (tol
 same_told s w e p p' words words' told a = record { phase = a.phase; recs = a.recs; next = a.next; refused = a.refused; act = a.act; ended = refl }
 
 turned_loaded : (tables : List Table) (txn : List Op) (s : Setting) (old new : Worker) (words : Words) (told : code.Moved) → is_reading old.stage ≡ true → IsAttemptOf old new → StageFits tables txn new new.stage → decided_item new ≡ None
-    → ((s : Setting) (w epoch : ℕ) → IsAct s w epoch (phase_of tables old) (phase_of tables new) words words told) → Turned tables s old new words words told
+    → ((s : Setting) (w epoch : ℕ) → IsAct s w epoch (phase_of_worker tables old) (phase_of_worker tables new) words words told) → Turned tables s old new words words told
 turned_loaded tables txn s old new words told reads attempt fits none act =
-    let to = phase_of tables new in
+    let to = phase_of_worker tables new in
     let stay = not_passed s old.number to (still tables txn new new.stage fits) in
     let a = act s old.number old.epoch in
     record {
       to = to;
-      act = same_told s old.number old.epoch (phase_of tables old) to words words told a;
+      act = same_told s old.number old.epoch (phase_of_worker tables old) to words words told a;
       phase = sym (ap (passed s old.number) stay.0 ∙ stay.0);
       number = attempt.number;
       epoch = attempt.epoch;
@@ -208,14 +210,14 @@ turned_confirmed : (tables : List Table) (txn : List Op) (s : Setting) (old new 
     → is_reading old.stage ≡ true → IsAttemptOf old new → decided_item new ≡ None → Confirms tables txn old new words told → Turned tables s old new words words told
 turned_confirmed tables txn s old new words told asks reads attempt none c = go c.left c.act c.ran
   where
-    go : (left : Result Reading Refusal) → ((s : Setting) (w epoch : ℕ) → IsAct s w epoch (phase_of tables old) (confirmed_phase old.index left) words words told) → phase_of tables new ≡ ran_on tables txn old.index left → Turned tables s old new words words told
+    go : (left : Result Reading Refusal) → ((s : Setting) (w epoch : ℕ) → IsAct s w epoch (phase_of_worker tables old) (confirmed_phase old.index left) words words told) → phase_of_worker tables new ≡ ran_on tables txn old.index left → Turned tables s old new words words told
     go (Ok r) act ran =
         let a = act s old.number old.epoch in
         let next : Phase = asked old.index r.reads.0 (s.ask old.number old.index r.reads.0) in
         let stay = not_passed s old.number next (still_asked old.index r.reads.0 (s.ask old.number old.index r.reads.0)) in
         record {
           to = Asking old.index r.reads.0;
-          act = same_told s old.number old.epoch (phase_of tables old) (Asking old.index r.reads.0) words words told a;
+          act = same_told s old.number old.epoch (phase_of_worker tables old) (Asking old.index r.reads.0) words words told a;
           phase = ran ∙ ap (asked old.index r.reads.0) (sym (asks r.reads.0)) ∙ sym stay.0;
           number = attempt.number;
           epoch = attempt.epoch;
@@ -230,7 +232,7 @@ turned_confirmed tables txn s old new words told asks reads attempt none c = go 
         let a = act s old.number old.epoch in
         record {
           to = Rest old.index;
-          act = same_told s old.number old.epoch (phase_of tables old) (Rest old.index) words words told a;
+          act = same_told s old.number old.epoch (phase_of_worker tables old) (Rest old.index) words words told a;
           phase = ran;
           number = attempt.number;
           epoch = attempt.epoch;
@@ -248,7 +250,7 @@ over_item d = if is_over d d.part then decided_at (stage.Committing d) else None
 
 -- what it comes to by what is left to do
 pub record Comes (tables : List Table) (s : Setting) (old : Worker) (t : Commit) : Type 0 where
-  pub phase : passed s old.number (passed s old.number (commit_phase tables t)) ≡ phase_of tables (finished old (decided t))
+  pub phase : passed s old.number (passed s old.number (commit_phase tables t)) ≡ phase_of_worker tables (finished old (decided t))
   pub first : wins old.number (commit_phase tables t) ≡ option_map (core_item tables) (if is_storing t.part then None else either (over_item (decided t)) (decided_item (finished old (decided t))))
   pub second : wins old.number (passed s old.number (commit_phase tables t)) ≡ None
   pub kept : is_storing t.part ≡ true → either (over_item (decided t)) (decided_item (finished old (decided t))) ≡ Some t.item
@@ -259,8 +261,8 @@ module _ (tables : List Table) (s : Setting) (old : Worker) (c : Commit) (i : c.
 
   -- a decided commit is over where all its writes are installed
   storing : (at stored : ℕ) → at ≤ length c.item.writes
-      → (passed s old.number (Storing c.item.index (packed c.item.stamp) stored (drop at (installs tables c))) ≡ phase_of tables (finished old (record c { part = part.Storing at stored })))
-      × (passed s old.number (passed s old.number (Storing c.item.index (packed c.item.stamp) stored (drop at (installs tables c)))) ≡ phase_of tables (finished old (record c { part = part.Storing at stored })))
+      → (passed s old.number (Storing c.item.index (packed c.item.stamp) stored (drop at (installs tables c))) ≡ phase_of_worker tables (finished old (record c { part = part.Storing at stored })))
+      × (passed s old.number (passed s old.number (Storing c.item.index (packed c.item.stamp) stored (drop at (installs tables c)))) ≡ phase_of_worker tables (finished old (record c { part = part.Storing at stored })))
       × (either (over_item (record c { part = part.Storing at stored })) (decided_item (finished old (record c { part = part.Storing at stored }))) ≡ Some c.item)
   storing at stored f = elim (eqb_tells at (length c.item.writes)) [
     | inl e ↦ (
@@ -276,7 +278,7 @@ module _ (tables : List Table) (s : Setting) (old : Worker) (c : Commit) (i : c.
   ]
 
   refusing : (at held : ℕ) → at ≤ held → held ≤ length c.item.writes
-      → (passed s old.number (passed s old.number (Refusing c.item.index (drop at (take held (installs tables c))))) ≡ phase_of tables (finished old (record c { part = part.Refusing at held })))
+      → (passed s old.number (passed s old.number (Refusing c.item.index (drop at (take held (installs tables c))))) ≡ phase_of_worker tables (finished old (record c { part = part.Refusing at held })))
       × (wins old.number (passed s old.number (Refusing c.item.index (drop at (take held (installs tables c))))) ≡ None)
       × (wins old.number (Refusing c.item.index (drop at (take held (installs tables c)))) ≡ None)
       × (either (over_item (record c { part = part.Refusing at held })) (decided_item (finished old (record c { part = part.Refusing at held }))) ≡ None)
@@ -349,7 +351,7 @@ turned_committed tables s old new words words' told c w_is i_is e_is =
     record {
       to = commit_phase tables t;
       act = c.act s;
-      phase = ap (phase_of tables) c.new_is ∙ sym m.phase;
+      phase = ap (phase_of_worker tables) c.new_is ∙ sym m.phase;
       number = ap (λ (z : Worker). z.number) c.new_is ∙ number (decided t);
       epoch = ap (λ (z : Worker). z.epoch) c.new_is ∙ epoch (decided t);
       first = m.first ∙ ap (option_map (core_item tables)) (
@@ -379,8 +381,8 @@ turned_committed tables s old new words words' told c w_is i_is e_is =
         go : (b : Bool) → (if b then record t { part = part.Storing 0 0 } else t).item ≡ t.item
         go true = refl
         go false = refl
-    item_of t (part.Storing place stored) = refl
-    item_of t (part.Refusing place held) = refl
+    item_of t (part.Storing closed stored) = refl
+    item_of t (part.Refusing closed held) = refl
 
     at_of : (d : Commit) → d.item ≡ c.to.item → IfSome (decided_at (stage.Committing d)) (IsOf old)
     at_of d e = go (is_storing d.part)
@@ -399,7 +401,7 @@ turned_committed tables s old new words words' told c w_is i_is e_is =
     last_of : (d : Commit) → d.item ≡ c.to.item → IfSome (decided_item (finished old d)) (IsOf old)
     last_of d e = go (is_over d d.part)
       where
-        go : (b : Bool) → IfSome (decided_item (if b then ended old d else record old { stage = stage.Committing d })) (IsOf old)
+        go : (b : Bool) → IfSome (decided_item (if b then ended_worker old d else record old { stage = stage.Committing d })) (IsOf old)
         go true = tt
         go false = at_of d e
 
@@ -408,11 +410,11 @@ turned_committed tables s old new words words' told c w_is i_is e_is =
     either_of false None p h k = k
     either_of false (Some x) p h k = h
 
-    -- where an item is ended nothing is decided any more
-    over_none : (d : Commit) (b : Bool) → is_over d d.part ≡ b → IfSome (if is_over d d.part then decided_at (stage.Committing d) else None) (λ x. decided_item (if is_over d d.part then ended old d else record old { stage = stage.Committing d }) ≡ None)
+    -- where an item is ended_worker nothing is decided any more
+    over_none : (d : Commit) (b : Bool) → is_over d d.part ≡ b → IfSome (if is_over d d.part then decided_at (stage.Committing d) else None) (λ x. decided_item (if is_over d d.part then ended_worker old d else record old { stage = stage.Committing d }) ≡ None)
     over_none d true e = rw e (go (decided_at (stage.Committing d)))
       where
-        go : (o : Option txn.Item) → IfSome o (λ x. decided_item (ended old d) ≡ None)
+        go : (o : Option txn.Item) → IfSome o (λ x. decided_item (ended_worker old d) ≡ None)
         go None = tt
         go (Some x) = refl
     over_none d false e = rw e tt
@@ -428,14 +430,14 @@ turned_committed tables s old new words words' told c w_is i_is e_is =
     number : (d : Commit) → (finished old d).number ≡ old.number
     number d = go (is_over d d.part)
       where
-        go : (b : Bool) → (if b then ended old d else record old { stage = stage.Committing d }).number ≡ old.number
+        go : (b : Bool) → (if b then ended_worker old d else record old { stage = stage.Committing d }).number ≡ old.number
         go true = refl
         go false = refl
 
     epoch : (d : Commit) → (finished old d).epoch ≡ old.epoch
     epoch d = go (is_over d d.part)
       where
-        go : (b : Bool) → (if b then ended old d else record old { stage = stage.Committing d }).epoch ≡ old.epoch
+        go : (b : Bool) → (if b then ended_worker old d else record old { stage = stage.Committing d }).epoch ≡ old.epoch
         go true = refl
         go false = refl
 
@@ -451,7 +453,7 @@ turned_committed tables s old new words words' told c w_is i_is e_is =
 -- an act of an attempt is a step of the core without its beginning
 pub stepped : (tables : List Table) (txn : List Op) (s : Setting) (old new : Worker) (words words' : Words) (told : code.Moved) (core : Core) → ((reads : List Read) → s.ask old.number old.index reads ≡ outcome tables txn reads)
     → StageFits tables txn old old.stage → Stands tables old words core → IsActed tables txn old new words words' told
-    → Steps tables old new words' told core (settle s (settle s (micro s core old.number) old.number) old.number)
+    → CodeSteps tables old new words' told core (settle s (settle s (micro s core old.number) old.number) old.number)
 stepped tables txn s old new words words' told core asks fits st (Loaded same reads attempt f none act) =
     turned tables txn s old new words words' told core fits st (subst (λ z. Turned tables s old new words z told) (sym same) (turned_loaded tables txn s old new words told reads attempt f none act))
 stepped tables txn s old new words words' told core asks fits st (Confirmed same reads attempt f none c) =

@@ -1,13 +1,14 @@
 -- Every schedule.
 use Rattle.std.proofs.Common.{◌≡◌, ℕ, zero, suc, ◌<◌, List, [], ◌∷◌, length, get_or, Bool, true, false, nat_lt, ◌&&◌, None, refl, sym, ap, ◌∙◌, arith, inl, true≢false, length-set}
-use Rattle.rl_worker.proofs.States.{Rec, Void, Entry, Phase, Rest, Asking, Wanting, Loading, Locking, Validating, Storing, Refusing, State, Setting, decided}
-use Rattle.rl_worker.proofs.OwnLaw.{Serial, Rising, Lawful, InLists}
-use Rattle.rl_worker.specs.Acts.{AllTrue, Core, no_rec, phase_of, micro, passing, resting, settle, begin, step, step_on, is_done, may, idle, Turn, Step, Idle, turn, run, target, moved, opening}
+use Rattle.rl_worker.proofs.Basics.{by_test, test_lt}
+use Rattle.rl_worker.proofs.States.{Rec, Void, Entry, Phase, Rest, Asking, Wanting, Loading, Locking, Validating, Storing, Refusing, State, decided, Setting}
+use Rattle.rl_worker.proofs.OwnLaw.{Ground, Serial, Rising, Lawful, InLists}
+use Rattle.rl_worker.specs.Laws.{AllTrue}
+use Rattle.rl_worker.specs.Acts.{Core, no_rec, phase_of, micro, passing, resting, settle, begin, step, step_on, is_done, may, idle, Turn, Step, Idle, turn, after_turns, target, act_result, opening_core}
 use Rattle.rl_worker.proofs.OwnLaw.{AllFree, AllRest, Opens}
 use Rattle.rl_worker.proofs.Inv.{Inv, Knows}
 use Rattle.rl_worker.proofs.Keeps.{Keeps, knows_kept, final_kept}
 use Rattle.rl_worker.proofs.Local.{decided_lives}
-use Rattle.rl_worker.proofs.Acts.{by_test, test_lt}
 use Rattle.rl_worker.proofs.Serial.{items_idle, all_serial, items_rise}
 use Rattle.rl_worker.proofs.Lift.{Good, lift, micro_good}
 use Rattle.rl_worker.proofs.Installs.{none_some, both}
@@ -18,44 +19,44 @@ use Rattle.rl_worker.proofs.Numbers.{Numbered, Latest, micro_numbered, idle_numb
 pub there : (S : Setting) (c : Core) (w : ℕ) → may S c w ≡ true → w < length c.workers
 there S c w h = test_lt w (length c.workers) (both (nat_lt w (length c.workers)) (nat_lt c.next S.last) (both (nat_lt 0 w) (nat_lt w (length c.workers) && nat_lt c.next S.last) h).1).0
 
-module _ (S : Setting) (L : Lawful S) (first : ℕ → ℕ) where
+module _ (G : Ground) (L : Lawful G) (first : ℕ → ℕ) where
   pub record Fine (c : Core) : Type 0 where
-    pub good : Good S c
+    pub good : Good G c
     pub numbered : Numbered first c
 
-  micro_length : (c : Core) (w : ℕ) → length (micro S c w).workers ≡ length c.workers
-  micro_length c w = length-set c.workers w (moved S w c.next (phase_of c w) (get_or c.recs (target (phase_of c w)) no_rec)).phase
+  micro_length : (c : Core) (w : ℕ) → length (micro G.setting c w).workers ≡ length c.workers
+  micro_length c w = length-set c.workers w (act_result G.setting w c.next (phase_of c w) (get_or c.recs (target (phase_of c w)) no_rec)).phase
 
-  pub micro_kept : (c : Core) (w : ℕ) → w < length c.workers → Fine c → Fine (micro S c w) × (w < length (micro S c w).workers)
+  pub micro_kept : (c : Core) (w : ℕ) → w < length c.workers → Fine c → Fine (micro G.setting c w) × (w < length (micro G.setting c w).workers)
   micro_kept c w h g = (
     record {
-      good = micro_good S L c g.good w h (phase_of c w) refl;
-      numbered = micro_numbered first S c S.base (rw g.good.items (items_rise g.good.log g.good.count S.base)) g.numbered w h (phase_of c w) refl;
+      good = micro_good G L c g.good w h (phase_of c w) refl;
+      numbered = micro_numbered first G.setting c G.setting.base (rw g.good.items (items_rise g.good.log g.good.count G.setting.base)) g.numbered w h (phase_of c w) refl;
     },
     rw micro_length h,
   )
 
-  settle_kept : (c : Core) (w : ℕ) → w < length c.workers → Fine c → Fine (settle S c w) × (w < length (settle S c w).workers)
-  settle_kept c w h g = by_test (λ z. Fine z × (w < length z.workers)) (passing (phase_of c w)) (micro S c w) c (λ t. micro_kept c w h g) (λ t. (g, h))
+  settle_kept : (c : Core) (w : ℕ) → w < length c.workers → Fine c → Fine (settle G.setting c w) × (w < length (settle G.setting c w).workers)
+  settle_kept c w h g = by_test (λ z. Fine z × (w < length z.workers)) (passing (phase_of c w)) (micro G.setting c w) c (λ t. micro_kept c w h g) (λ t. (g, h))
 
-  begin_kept : (c : Core) (w : ℕ) → w < length c.workers → Fine c → Fine (begin S c w) × (w < length (begin S c w).workers)
-  begin_kept c w h g = by_test (λ z. Fine z × (w < length z.workers)) (resting (phase_of c w)) (micro S (micro S c w) w) c
-      (λ t. let a = micro_kept c w h g in micro_kept (micro S c w) w a.1 a.0) (λ t. (g, h))
+  begin_kept : (c : Core) (w : ℕ) → w < length c.workers → Fine c → Fine (begin G.setting c w) × (w < length (begin G.setting c w).workers)
+  begin_kept c w h g = by_test (λ z. Fine z × (w < length z.workers)) (resting (phase_of c w)) (micro G.setting (micro G.setting c w) w) c
+      (λ t. let a = micro_kept c w h g in micro_kept (micro G.setting c w) w a.1 a.0) (λ t. (g, h))
 
-  step_on_kept : (c : Core) (w : ℕ) → w < length c.workers → Fine c → Fine (step_on S c w)
+  step_on_kept : (c : Core) (w : ℕ) → w < length c.workers → Fine c → Fine (step_on G.setting c w)
   step_on_kept c w h g =
       let a = begin_kept c w h g in
-      let b = micro_kept (begin S c w) w a.1 a.0 in
-      let d = settle_kept (micro S (begin S c w) w) w b.1 b.0 in
-      (settle_kept (settle S (micro S (begin S c w) w) w) w d.1 d.0).0
+      let b = micro_kept (begin G.setting c w) w a.1 a.0 in
+      let d = settle_kept (micro G.setting (begin G.setting c w) w) w b.1 b.0 in
+      (settle_kept (settle G.setting (micro G.setting (begin G.setting c w) w) w) w d.1 d.0).0
 
-  step_kept : (c : Core) (w : ℕ) → w < length c.workers → Fine c → Fine (step S c w)
-  step_kept c w h g = by_test (λ z. Fine z) (is_done S w (phase_of c w)) c (step_on S c w) (λ t. g) (λ t. step_on_kept c w h g)
+  step_kept : (c : Core) (w : ℕ) → w < length c.workers → Fine c → Fine (step G.setting c w)
+  step_kept c w h g = by_test (λ z. Fine z) (is_done G.setting w (phase_of c w)) c (step_on G.setting c w) (λ t. g) (λ t. step_on_kept c w h g)
 
-  idle_inv : (σ : State) → Inv S σ → Inv S (record { recs = σ.recs; workers = σ.workers; log = σ.log; next = suc σ.next })
+  idle_inv : (σ : State) → Inv G σ → Inv G (record { recs = σ.recs; workers = σ.workers; log = σ.log; next = suc σ.next })
   idle_inv σ inv =
       let τ : State = record { recs = σ.recs; workers = σ.workers; log = σ.log; next = suc σ.next } in
-      let keeps : (z : ℕ) → Keeps S σ τ z = λ z. record {
+      let keeps : (z : ℕ) → Keeps G σ τ z = λ z. record {
         next_up = omega arith;
         version = λ r v row h. h;
         stamp_up = λ r. omega arith;
@@ -66,7 +67,7 @@ module _ (S : Setting) (L : Lawful S) (first : ℕ → ℕ) where
         writes = λ u a. refl;
       } in
       record {
-        knows = λ v. knows_kept S σ τ (suc v) (keeps (suc v)) v (omega arith) (σ.workers v) (inv.knows v);
+        knows = λ v. knows_kept G σ τ (suc v) (keeps (suc v)) v (omega arith) (σ.workers v) (inv.knows v);
         owner = inv.owner;
         width_is = inv.width_is;
         based = omega (arith, inv.based);
@@ -74,37 +75,37 @@ module _ (S : Setting) (L : Lawful S) (first : ℕ → ℕ) where
         content = inv.content;
         drawn = inv.drawn;
         past = λ t l. ((inv.past t l).0, omega (arith, (inv.past t l).1));
-        final = λ t d. final_kept S σ τ 0 (keeps 0) t (omega (arith, (inv.past t (decided_lives (σ.log t).status d)).1)) refl (inv.final t d);
+        final = λ t d. final_kept G σ τ 0 (keeps 0) t (omega (arith, (inv.past t (decided_lives (σ.log t).status d)).1)) refl (inv.final t d);
       }
 
-  not_yet : (c : Core) (g : Good S c) → decided (g.log c.next).status ≡ false
+  not_yet : (c : Core) (g : Good G c) → decided (g.log c.next).status ≡ false
   not_yet c g = go (decided (g.log c.next).status) refl
     where
       go : (b : Bool) → decided (g.log c.next).status ≡ b → b ≡ false
       go false e = refl
       go true e = absurd (omega (arith, (g.inv.past c.next (decided_lives (g.log c.next).status e)).1))
 
-  pub idle_kept : (c : Core) (w : ℕ) → Good S c → Good S (idle c w)
-  idle_kept c w g = by_test (λ z. Good S z) (resting (phase_of c w)) _ _
+  pub idle_kept : (c : Core) (w : ℕ) → Good G c → Good G (idle c w)
+  idle_kept c w g = by_test (λ z. Good G z) (resting (phase_of c w)) _ _
       (λ t. record {
         log = g.log;
         count = suc g.count;
         count_is = omega (arith, g.count_is);
         inv = idle_inv (lift c g.log) g.inv;
-        items = g.items ∙ sym (items_idle g.log g.count S.base c.next g.count_is (not_yet c g));
+        items = g.items ∙ sym (items_idle g.log g.count G.setting.base c.next g.count_is (not_yet c g));
         inside = g.inside;
         causes = g.causes;
       })
       (λ t. g)
 
-  turn_kept : (c : Core) (t : Turn) → Fine c → Fine (turn S c t)
-  turn_kept c (Step w) g = by_test (λ z. Fine z) (may S c w) (step S c w) c (λ t. step_kept c w (there S c w t) g) (λ t. g)
-  turn_kept c (Idle w) g = by_test (λ z. Fine z) (may S c w) (idle c w) c
+  turn_kept : (c : Core) (t : Turn) → Fine c → Fine (turn G.setting c t)
+  turn_kept c (Step w) g = by_test (λ z. Fine z) (may G.setting c w) (step G.setting c w) c (λ t. step_kept c w (there G.setting c w t) g) (λ t. g)
+  turn_kept c (Idle w) g = by_test (λ z. Fine z) (may G.setting c w) (idle c w) c
       (λ t. record { good = idle_kept c w g.good; numbered = idle_numbered first c w g.numbered }) (λ t. g)
 
-  run_kept : (ts : List Turn) (c : Core) → Fine c → Fine (run S c ts)
+  run_kept : (ts : List Turn) (c : Core) → Fine c → Fine (after_turns G.setting c ts)
   run_kept [] c g = g
-  run_kept (t ∷ ts) c g = run_kept ts (turn S c t) (turn_kept c t g)
+  run_kept (t ∷ ts) c g = run_kept ts (turn G.setting c t) (turn_kept c t g)
 
   free_at : (xs : List Rec) (r : ℕ) → AllFree xs → (get_or xs r no_rec).holder ≡ None
   free_at [] r h = refl
@@ -116,7 +117,7 @@ module _ (S : Setting) (L : Lawful S) (first : ℕ → ℕ) where
   rest_at (p ∷ ps) zero h = h.0
   rest_at (p ∷ ps) (suc w) h = rest_at ps w h.1
 
-  knows_rest : (σ : State) (w : ℕ) (p : Phase) → resting p ≡ true → Knows S σ w p
+  knows_rest : (σ : State) (w : ℕ) (p : Phase) → resting p ≡ true → Knows G σ w p
   knows_rest σ w (Rest q) h = 0
   knows_rest σ w (Asking q reads) h = absurd (true≢false (sym h))
   knows_rest σ w (Wanting q reads r) h = absurd (true≢false (sym h))
@@ -129,14 +130,14 @@ module _ (S : Setting) (L : Lawful S) (first : ℕ → ℕ) where
   none_yet : ℕ → Entry
   none_yet t = record { worker = 0; index = 0; reads = []; answer = (record { outs = []; end = Done }, []); writes = []; status = Void }
 
-  opening_good : (recs : List Rec) (workers : List Phase) → Opens S recs workers → Good S (opening S recs workers)
+  opening_good : (recs : List Rec) (workers : List Phase) → Opens G recs workers → Good G (opening_core G.setting recs workers)
   unfolding none_yet
   opening_good recs workers o = record {
     log = none_yet;
     count = 0;
     count_is = omega arith;
     inv = record {
-      knows = λ w. knows_rest (lift (opening S recs workers) none_yet) w (get_or workers w (Rest 0)) (rest_at workers w o.rests);
+      knows = λ w. knows_rest (lift (opening_core G.setting recs workers) none_yet) w (get_or workers w (Rest 0)) (rest_at workers w o.rests);
       owner = λ r w h. absurd (none_some w (sym (free_at recs r o.free) ∙ h));
       width_is = λ r. ap (λ (z : Rec). length z.cells) (sym (o.start_is r)) ∙ L.widths r;
       based = omega arith;
@@ -148,7 +149,7 @@ module _ (S : Setting) (L : Lawful S) (first : ℕ → ℕ) where
     };
     items = refl;
     inside = o.inside;
-    causes = 0;
+    causes = tt;
   }
 
   latest_rest : (p : Phase) (w n : ℕ) → resting p ≡ true → Latest p w [] n
@@ -161,24 +162,28 @@ module _ (S : Setting) (L : Lawful S) (first : ℕ → ℕ) where
   latest_rest (Storing q t j todo) w n h = absurd (true≢false (sym h))
   latest_rest (Refusing q todo) w n h = absurd (true≢false (sym h))
 
-  pub idle_fine : (c : Core) (w : ℕ) → Fine c → Fine (idle c w)
-  idle_fine c w g = record { good = idle_kept c w g.good; numbered = idle_numbered first c w g.numbered }
-
-  pub opening_fine : (recs : List Rec) (workers : List Phase) → Opens S recs workers → ((w : ℕ) → w < length workers → get_or workers w (Rest 0) ≡ Rest (first w)) → Fine (opening S recs workers)
+  opening_fine : (recs : List Rec) (workers : List Phase) → Opens G recs workers → ((w : ℕ) → w < length workers → get_or workers w (Rest 0) ≡ Rest (first w)) → Fine (opening_core G.setting recs workers)
   opening_fine recs workers o f = record {
     good = opening_good recs workers o;
-    numbered = opening_numbered first S recs workers f (λ w. latest_rest (get_or workers w (Rest 0)) w S.base (rest_at workers w o.rests));
+    numbered = opening_numbered first G.setting recs workers f (λ w. latest_rest (get_or workers w (Rest 0)) w G.setting.base (rest_at workers w o.rests));
   }
 
-  pub law : (recs : List Rec) (workers : List Phase) (turns : List Turn) → Opens S recs workers → ((w : ℕ) → w < length workers → get_or workers w (Rest 0) ≡ Rest (first w))
-      → Serial S (λ r. (S.start r).cells) (run S (opening S recs workers) turns).decided
-      × Rising S.base (run S (opening S recs workers) turns).decided
-      × AllTrue (run S (opening S recs workers) turns).refusals
-      × InLists first (run S (opening S recs workers) turns).decided
+  -- what the law says of a core
+  pub record Law (c : Core) : Type 0 where
+    pub serial : Serial G.setting (λ r. (G.start r).cells) c.decided
+    pub rising : Rising G.setting.base c.decided
+    pub causes : AllTrue c.refusals
+    pub in_lists : InLists first c.decided
+
+  pub law : (recs : List Rec) (workers : List Phase) (turns : List Turn) → Opens G recs workers → ((w : ℕ) → w < length workers → get_or workers w (Rest 0) ≡ Rest (first w))
+      → Law (after_turns G.setting (opening_core G.setting recs workers) turns)
   law recs workers turns o f =
-      let k = run_kept turns (opening S recs workers) (record {
-        good = opening_good recs workers o;
-        numbered = opening_numbered first S recs workers f (λ w. latest_rest (get_or workers w (Rest 0)) w S.base (rest_at workers w o.rests));
-      }) in
+      let c = after_turns G.setting (opening_core G.setting recs workers) turns in
+      let k = run_kept turns (opening_core G.setting recs workers) (opening_fine recs workers o f) in
       let g = k.good in
-      (rw g.items (all_serial S L (lift (run S (opening S recs workers) turns) g.log) g.inv g.count), rw g.items (items_rise g.log g.count S.base), g.causes, in_lists first (run S (opening S recs workers) turns) k.numbered)
+      record {
+        serial = rw g.items (all_serial G L (lift c g.log) g.inv g.count);
+        rising = rw g.items (items_rise g.log g.count G.setting.base);
+        causes = g.causes;
+        in_lists = in_lists first c k.numbered;
+      }

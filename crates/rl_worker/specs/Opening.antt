@@ -1,8 +1,9 @@
 -- The core of an open leader: real tables, request lists and rows.
-use Rattle.std.specs.Prelude.{ℕ, zero, suc, ◌+◌, ◌-◌, ◌*◌, ◌^◌, ◌<◌, List, [], ◌∷◌, length, map, sum, get_or, slice_index, replicate, Option, Some, None, is_some}
+use Rattle.std.specs.Prelude.{ℕ, zero, suc, ◌+◌, ◌-◌, ◌*◌, ◌^◌, ◌<◌, List, [], ◌∷◌, map, sum, slice_index, Option, None, is_some}
 use Rattle.std.specs.Option.{option_map_or, option_and_then}
 use Rattle.std.specs.List.{range_with_len}
 use Rattle.std.specs.FinMap as finite
+use Rattle.rl_value.specs.Cells.{cells_of, row_of}
 use Rattle.rl_value.specs.Fits.{RowsFit}
 use Rattle.rl_value.specs.Rows.{Rows}
 use Rattle.rl_value.specs.Tables.{Table, IsSchema, columns_of}
@@ -15,21 +16,10 @@ use Rattle.rl_txn.specs.declared.op.Op.{Op}
 use Rattle.rl_txn.specs.declared.eval.Wants as eval
 use Rattle.rl_txn.specs.declared.eval.Wants.TheVariants.{Read as WantsRead, Ended as WantsEnded}
 use Rattle.rl_txn.specs.declared.write.Write.{Write}
-use Rattle.rl_txn.specs.declared.item.Item as txn
+use Rattle.rl_txn.specs.declared.item.Item.{Item}
 use Rattle.rl_worker.specs.Phases.{Read, Install, Rec, Outcome, Wants, Ends, Phase, Rest, Setting}
-use Rattle.rl_worker.specs.Items.{Item}
-use Rattle.rl_worker.specs.Acts.{Core, Turn, no_rec, opening, run as run_core}
-
--- a record's cells: presence, then the columns, which are zeros where the row is absent
-abbrev pub cells_of : ℕ → Option (List ℕ) → List ℕ
-cells_of columns None = 0 ∷ replicate columns 0
-cells_of columns (Some row) = 1 ∷ row
-
--- the row that cells stand for
-abbrev pub row_of : List ℕ → Option (List ℕ)
-row_of [] = None
-row_of (zero ∷ row) = None
-row_of (suc n ∷ row) = Some row
+use Rattle.rl_worker.specs.Items.{CoreItem}
+use Rattle.rl_worker.specs.Acts.{Core, Turn, opening_core, after_turns}
 
 -- the rows that were read, by place
 abbrev pub overlay_of : List Table → List Read → Overlay
@@ -38,69 +28,89 @@ overlay_of tables (x ∷ xs) = finite.insert (overlay_of tables xs) (place_of (s
 
 -- a write as it is installed in its record
 abbrev pub install_of : List Table → Write → Install
-install_of tables w = record { rec = record_of (sizes_of tables) w.table w.key; row = cells_of (columns_of tables w.table) w.row }
+install_of tables w =
+    record { rec = record_of (sizes_of tables) w.table w.key; row = cells_of (columns_of tables w.table) w.row }
 
+-- what a transaction does next that has these reads: it wants a record, or it ends by its run on the rows read
 abbrev pub outcome_of : List Table → List Op → List Read → eval.Wants → Outcome
 outcome_of tables txn reads (WantsRead t k) = Wants (record_of (sizes_of tables) t k)
 outcome_of tables txn reads (WantsEnded end) =
-    let answer = run tables txn (rows_of (overlay_of tables reads)) in Ends answer (map (install_of tables) answer.1)
+    let answer = run tables txn (rows_of (overlay_of tables reads)) in
+    Ends answer (map (install_of tables) answer.1)
 
 -- what a transaction does next, given the records that it has read
 abbrev pub outcome : List Table → List Op → List Read → Outcome
 outcome tables txn reads = outcome_of tables txn reads (wants tables txn (overlay_of tables reads))
 
 -- the request of a worker and an index, both counted from 1
-abbrev pub request : List (List (List Op)) → ℕ → ℕ → Option (List Op)
+abbrev pub request : List (List (List Op)) → (w q : ℕ) → Option (List Op)
 request lists w q = option_and_then (λ list. numbered list q) (numbered lists w)
 
 -- a worker begins no request that is not there; such a one would never end
-abbrev pub asks : List Table → List (List (List Op)) → ℕ → ℕ → List Read → Outcome
+abbrev pub asks : List Table → List (List (List Op)) → (w q : ℕ) → List Read → Outcome
 asks tables lists w q reads = option_map_or (λ txn. outcome tables txn reads) (request lists w q) (Wants 0)
 
 -- a record as it opens: the stamp of its last write, or 0, and its row
-abbrev pub opening_rec : List Table → Rows → List ℕ → ℕ → Rec
+abbrev pub opening_rec : List Table → Rows → (stamps : List ℕ) → (r : ℕ) → Rec
 opening_rec tables rows stamps r =
     let place = place_of (sizes_of tables) r in
     record { stamp = slice_index stamps r; holder = None; cells = cells_of (columns_of tables place.0) (finite.get rows place) }
 
-abbrev pub opening_recs : List Table → Rows → List ℕ → List Rec
+-- the records as they open
+abbrev pub opening_recs : List Table → Rows → (stamps : List ℕ) → List Rec
 opening_recs tables rows stamps = map (opening_rec tables rows stamps) (range_with_len 0 (sum (sizes_of tables)))
 
 -- the first stamp of an epoch that is drawn is that of seq 2, and the last that of 2^40 - 2
-abbrev pub setting_of : List Table → List (List (List Op)) → Rows → List ℕ → ℕ → Setting
-setting_of tables lists rows stamps epoch = record {
+abbrev pub setting_of : List Table → List (List (List Op)) → (epoch : ℕ) → Setting
+setting_of tables lists epoch = record {
   there = λ w q. is_some (request lists w q);
   ask = asks tables lists;
-  width = λ r. length (get_or (opening_recs tables rows stamps) r no_rec).cells;
-  start = λ r. get_or (opening_recs tables rows stamps) r no_rec;
   base = epoch * 2 ^ 40 + 2;
   last = epoch * 2 ^ 40 + (2 ^ 40 - 1);
 }
 
 -- the index that a worker begins with. Workers are counted from 1: nobody is at place 0
-abbrev pub first_of : List ℕ → ℕ → ℕ
+abbrev pub first_of : (firsts : List ℕ) → (w : ℕ) → ℕ
 first_of firsts zero = 0
 first_of firsts (suc w) = slice_index firsts w
 
-abbrev pub at_rest : List ℕ → List Phase
+-- the workers at rest, each before the request that it begins with
+abbrev pub at_rest : (firsts : List ℕ) → List Phase
 at_rest firsts = Rest 0 ∷ map Rest firsts
 
--- the core after some steps and idle draws of the workers
-abbrev pub core_after : List Table → List (List (List Op)) → Rows → List ℕ → ℕ → List ℕ → List Turn → Core
-core_after tables lists rows stamps epoch firsts turns =
-    let setting = setting_of tables lists rows stamps epoch in
-    run_core setting (opening setting (opening_recs tables rows stamps) (at_rest firsts)) turns
+-- a leader as it opens: tables and request lists, the rows and each record's stamp, the epoch, and the index that
+-- each worker begins with
+pub record OpenLeader : Type 0 where
+  pub tables : List Table
+  pub lists : List (List (List Op))
+  pub rows : Rows
+  pub stamps : List ℕ
+  pub epoch : ℕ
+  pub firsts : List ℕ
 
--- an item of the core as the layers above keep it
-abbrev pub item_of : ℕ → Item → txn.Item
-item_of epoch x = record { stamp = record { epoch = epoch; seq = x.stamp - epoch * 2 ^ 40 }; worker = x.worker; index = x.index; reply = x.answer.0; writes = x.answer.1 }
+-- the core of a leader after some steps and idle draws of its workers
+abbrev pub core_after : OpenLeader → List Turn → Core
+core_after l turns =
+    let setting = setting_of l.tables l.lists l.epoch in
+    after_turns setting (opening_core setting (opening_recs l.tables l.rows l.stamps) (at_rest l.firsts)) turns
 
-abbrev pub items_of : ℕ → List Item → List txn.Item
-items_of epoch xs = map (item_of epoch) xs
+-- an item of the core as the layers above see it
+abbrev pub item_seen : (epoch : ℕ) → CoreItem → Item
+item_seen epoch x = record {
+  stamp = record { epoch = epoch; seq = x.stamp - epoch * 2 ^ 40 };
+  worker = x.worker;
+  index = x.index;
+  reply = x.answer.0;
+  writes = x.answer.1;
+}
+
+-- items of the core as the layers above see them
+abbrev pub items_seen : (epoch : ℕ) → List CoreItem → List Item
+items_seen epoch xs = map (item_seen epoch) xs
 
 -- what a core may open with: the stamps are of earlier epochs, or 0
-pub record CoreFits (tables : List Table) (lists : List (List (List Op))) (rows : Rows) (stamps : List ℕ) (epoch : ℕ) : Type 0 where
-  pub schema : IsSchema tables
-  pub lists_fit : ListsFit tables lists
-  pub rows_fit : RowsFit tables rows
-  pub earlier : (r : ℕ) → slice_index stamps r < epoch * 2 ^ 40
+pub record CoreFits (l : OpenLeader) : Type 0 where
+  pub schema : IsSchema l.tables
+  pub lists_fit : ListsFit l.tables l.lists
+  pub rows_fit : RowsFit l.tables l.rows
+  pub earlier : (r : ℕ) → slice_index l.stamps r < l.epoch * 2 ^ 40

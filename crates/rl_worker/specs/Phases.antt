@@ -1,5 +1,6 @@
--- Records, and the phases of an attempt: it reads, locks what it writes, draws a stamp, validates what it read, and installs (after Silo's commit protocol).
-use Rattle.std.specs.Prelude.{ℕ, List, [], ◌∷◌, Bool, true, false, not, ◌==◌, nat_lt, if◌then◌else◌, Option, Some, None}
+-- Records, and the phases of an attempt: it reads, locks what it writes, draws a stamp, validates what it
+-- read, and installs (after Silo's commit protocol).
+use Rattle.std.specs.Prelude.{ℕ, List, [], ◌∷◌, Bool, false, not, ◌==◌, nat_lt, if◌then◌else◌, Option, Some, None}
 use Rattle.rl_txn.specs.declared.write.Reply.{Reply}
 use Rattle.rl_txn.specs.declared.write.Write.{Write}
 use Rattle.rl_worker.specs.declared.reads.Read as reads
@@ -24,12 +25,13 @@ Rec = words.Record
 
 -- what a transaction does next, given the records that it has read
 pub data Outcome : Type 0 where
-  Wants : ℕ → Outcome
+  Wants : (rec : ℕ) → Outcome
   Ends : Answer → List Install → Outcome
 
--- what a worker is about. It stands in Asking, and in a phase with nothing left, only within a step
+-- what a worker is about, where q is its request and t the stamp that it drew. It stands in Asking, and in a
+-- phase with nothing left to do, only within a step
 pub data Phase : Type 0 where
-  Rest : ℕ → Phase
+  Rest : (q : ℕ) → Phase
   Asking : (q : ℕ) → List Read → Phase
   Wanting : (q : ℕ) → List Read → (r : ℕ) → Phase
   Loading : (q : ℕ) → List Read → (r seen : ℕ) → (loaded : List ℕ) → Phase
@@ -38,22 +40,12 @@ pub data Phase : Type 0 where
   Storing : (q t stored : ℕ) → (todo : List Install) → Phase
   Refusing : (q : ℕ) → (todo : List Install) → Phase
 
--- what stays the same: which requests there are and what they do, the records as they open, the first stamp and the one past the last
+-- what stays the same: which requests there are and what they do, the first stamp and the one past the last
 pub record Setting : Type 0 where
   pub there : (worker index : ℕ) → Bool
   pub ask : (worker index : ℕ) → List Read → Outcome
-  pub width : ℕ → ℕ
-  pub start : ℕ → Rec
   pub base : ℕ
   pub last : ℕ
-
-abbrev pub has : ℕ → List Install → Bool
-has r [] = false
-has r (x ∷ xs) = if r == x.rec then true else has r xs
-
-abbrev pub row_at : ℕ → List Install → Option (List ℕ)
-row_at r [] = None
-row_at r (x ∷ xs) = if r == x.rec then Some x.row else row_at r xs
 
 -- one more read, by rising record number
 abbrev pub with_read : Read → List Read → List Read
@@ -61,11 +53,11 @@ with_read x [] = x ∷ []
 with_read x (y ∷ ys) = if nat_lt x.rec y.rec then x ∷ y ∷ ys else y ∷ with_read x ys
 
 -- the phase after what the transaction asked for
-abbrev pub asked : ℕ → List Read → Outcome → Phase
+abbrev pub asked : (q : ℕ) → List Read → Outcome → Phase
 asked q reads (Wants r) = Wanting q reads r
 asked q reads (Ends answer writes) = Locking q reads answer [] writes
 
 -- a holder that is not this worker
-abbrev pub other : ℕ → Option ℕ → Bool
+abbrev pub other : (worker : ℕ) → (holder : Option ℕ) → Bool
 other w None = false
 other w (Some v) = not (v == w)

@@ -2,7 +2,7 @@
 
 ghost use Rattle.std.specs.Prelude.{◌≡◌, ◌+◌, ◌<◌, ◌≤◌, ◌∷◌, [], ◌++◌, length, slice_index, slice_set, replicate, IfSome};
 ghost use Rattle.std.specs.Option.{option_copied};
-ghost use Rattle.rl_worker.specs.Opening.{cells_of, row_of};
+ghost use Rattle.rl_value.specs.Cells.{cells_of, row_of};
 
 use rl_value::row::Row;
 use std::marker::Model;

@@ -3,9 +3,11 @@
 ghost use Rattle.std.specs.Prelude.{◌≡◌, ◌+◌, ◌*◌, ◌^◌, ◌-◌, ◌<◌, ◌≤◌, ℕ, List, Some, None, length, get_or, slice_get, IfSome};
 ghost use Rattle.rl_value.specs.Tables.{Table, columns_of};
 ghost use Rattle.rl_tables.specs.Numbers.{sizes_of};
-ghost use Rattle.rl_worker.specs.Phases.{Setting};
-ghost use Rattle.rl_worker.specs.Opening.{cells_of};
-ghost use Rattle.rl_worker.specs.Workers.{CommitFits, HasMore, RecordsFit, RowHas, IsAct, IsThere, IsOfAttempt, commit_phase, decided, is_over, is_storing};
+ghost use Rattle.rl_value.specs.Cells.{cells_of};
+ghost use Rattle.rl_txn.specs.Fits.{RowHas};
+ghost use Rattle.rl_worker.specs.Told.{NamesRecord};
+ghost use Rattle.rl_worker.specs.Workers.{CommitFits, HasMore, RecordsFit, is_storing};
+ghost use Rattle.rl_worker.specs.Attempts.{IsCommitAct, IsOfAttempt, decided, is_over};
 
 use crate::act::{Act, Moved};
 use crate::reads::Reads;
@@ -26,9 +28,9 @@ pub enum Part {
     /// All are locked, the stamp is drawn, and so many of the reads are validated.
     Validating { done: usize },
     /// It is decided. So many of the writes are installed, and so many cells of the next one.
-    Storing { place: usize, stored: u32 },
+    Storing { closed: usize, stored: u32 },
     /// It is refused. So many of the locks that were held are let go.
-    Refusing { place: usize, held: usize },
+    Refusing { closed: usize, held: usize },
 }
 
 /// An attempt whose transaction has ended: what it read, and the item that it is to be. The
@@ -54,9 +56,9 @@ impl Commit {
         requires records { RecordsFit schema.now words.old.records.items }
         requires part { self.old.part ≡ Part.Locking held }
         requires more { held < length self.old.item.writes }
-        ensures act { (s : Setting) → IsAct s self.old.item.worker self.old.item.stamp.epoch (commit_phase schema.now self.old) (commit_phase schema.now self.new) words.old words.new result }
+        ensures act { IsCommitAct schema.now self.old self.new words.old words.new result }
         ensures fits { CommitFits schema.now self.new }
-        ensures there { IsThere schema.now result.refused }
+        ensures there { NamesRecord schema.now result.refused }
         ensures attempt { IsOfAttempt self.old self.new }
         ensures records { RecordsFit schema.now words.new.records.items }
     {
@@ -71,7 +73,7 @@ impl Commit {
                 None
             }
             Some(_) => {
-                self.part = Part::Refusing { place: 0, held };
+                self.part = Part::Refusing { closed: 0, held };
                 Some(Refusal::Locked { rec, word })
             }
         };
@@ -83,9 +85,9 @@ impl Commit {
         requires fits { CommitFits schema.now self.old }
         requires part { self.old.part ≡ Part.Locking (length self.old.item.writes) }
         requires next { words.old.next < 2 ^ 40 - 1 }
-        ensures act { (s : Setting) → IsAct s self.old.item.worker self.old.item.stamp.epoch (commit_phase schema.now self.old) (commit_phase schema.now self.new) words.old words.new result }
+        ensures act { IsCommitAct schema.now self.old self.new words.old words.new result }
         ensures fits { CommitFits schema.now self.new }
-        ensures there { IsThere schema.now result.refused }
+        ensures there { NamesRecord schema.now result.refused }
         ensures attempt { IsOfAttempt self.old self.new }
         ensures records { words.new.records ≡ words.old.records }
     {
@@ -102,9 +104,9 @@ impl Commit {
         requires records { RecordsFit schema.now words.now.records.items }
         requires part { self.old.part ≡ Part.Validating done }
         requires more { done < length self.old.reads.0 }
-        ensures act { (s : Setting) → IsAct s self.old.item.worker self.old.item.stamp.epoch (commit_phase schema.now self.old) (commit_phase schema.now self.new) words.now words.now result }
+        ensures act { IsCommitAct schema.now self.old self.new words.now words.now result }
         ensures fits { CommitFits schema.now self.new }
-        ensures there { IsThere schema.now result.refused }
+        ensures there { NamesRecord schema.now result.refused }
         ensures attempt { IsOfAttempt self.old self.new }
     {
         let read = &self.reads.as_slice()[done];
@@ -114,7 +116,7 @@ impl Commit {
         self.part = match refused {
             None => Part::Validating { done: done + 1 },
             Some(_) => Part::Refusing {
-                place: 0,
+                closed: 0,
                 held: self.item.writes.len(),
             },
         };
@@ -133,28 +135,28 @@ impl Commit {
         words: &mut Words,
         layout: &Layout,
         schema: &Schema,
-        place: usize,
+        closed: usize,
         stored: u32,
     ) -> Moved
         requires layout { layout.now ≡ sizes_of schema.now }
         requires fits { CommitFits schema.now self.old }
         requires records { RecordsFit schema.now words.old.records.items }
-        requires part { self.old.part ≡ Part.Storing place stored }
-        requires more { place < length self.old.item.writes }
-        ensures act { (s : Setting) → IsAct s self.old.item.worker self.old.item.stamp.epoch (commit_phase schema.now self.old) (commit_phase schema.now self.new) words.old words.new result }
+        requires part { self.old.part ≡ Part.Storing closed stored }
+        requires more { closed < length self.old.item.writes }
+        ensures act { IsCommitAct schema.now self.old self.new words.old words.new result }
         ensures fits { CommitFits schema.now self.new }
-        ensures there { IsThere schema.now result.refused }
+        ensures there { NamesRecord schema.now result.refused }
         ensures attempt { IsOfAttempt self.old self.new }
         ensures records { RecordsFit schema.now words.new.records.items }
     {
-        let write = &self.item.writes.as_slice()[place];
+        let write = &self.item.writes.as_slice()[closed];
         let rec = layout.record(write.table, write.key);
         let record = &mut words.records[rec as usize];
         if stored <= schema.columns(write.table) {
             let value = cell_of(write, stored);
             record.cells.set(stored, value);
             self.part = Part::Storing {
-                place,
+                closed,
                 stored: stored + 1,
             };
             return Moved::by(
@@ -170,7 +172,7 @@ impl Commit {
         record.stamp = stamp;
         record.holder = None;
         self.part = Part::Storing {
-            place: place + 1,
+            closed: closed + 1,
             stored: 0,
         };
         Moved::by(
@@ -188,27 +190,27 @@ impl Commit {
         words: &mut Words,
         layout: &Layout,
         schema: &Schema,
-        place: usize,
+        closed: usize,
         held: usize,
     ) -> Moved
         requires layout { layout.now ≡ sizes_of schema.now }
         requires fits { CommitFits schema.now self.old }
         requires records { RecordsFit schema.now words.old.records.items }
-        requires part { self.old.part ≡ Part.Refusing place held }
-        requires more { place < held }
-        ensures act { (s : Setting) → IsAct s self.old.item.worker self.old.item.stamp.epoch (commit_phase schema.now self.old) (commit_phase schema.now self.new) words.old words.new result }
+        requires part { self.old.part ≡ Part.Refusing closed held }
+        requires more { closed < held }
+        ensures act { IsCommitAct schema.now self.old self.new words.old words.new result }
         ensures fits { CommitFits schema.now self.new }
-        ensures there { IsThere schema.now result.refused }
+        ensures there { NamesRecord schema.now result.refused }
         ensures attempt { IsOfAttempt self.old self.new }
         ensures records { RecordsFit schema.now words.new.records.items }
     {
-        let write = &self.item.writes.as_slice()[place];
+        let write = &self.item.writes.as_slice()[closed];
         let rec = layout.record(write.table, write.key);
         let record = &mut words.records[rec as usize];
         record.holder = None;
         let word = word_of(record.stamp);
         self.part = Part::Refusing {
-            place: place + 1,
+            closed: closed + 1,
             held,
         };
         Moved::by(Act::Close { rec, word }, None)
@@ -221,9 +223,9 @@ impl Commit {
         requires more { HasMore self.old self.old.part }
         requires records { RecordsFit schema.now words.old.records.items }
         requires next { words.old.next < 2 ^ 40 - 1 }
-        ensures act { (s : Setting) → IsAct s self.old.item.worker self.old.item.stamp.epoch (commit_phase schema.now self.old) (commit_phase schema.now self.new) words.old words.new result }
+        ensures act { IsCommitAct schema.now self.old self.new words.old words.new result }
         ensures fits { CommitFits schema.now self.new }
-        ensures there { IsThere schema.now result.refused }
+        ensures there { NamesRecord schema.now result.refused }
         ensures attempt { IsOfAttempt self.old self.new }
         ensures records { RecordsFit schema.now words.new.records.items }
     {
@@ -233,8 +235,8 @@ impl Commit {
             }
             Part::Locking { .. } => self.draw(words, schema),
             Part::Validating { done } => self.validate(words, schema, done),
-            Part::Storing { place, stored } => self.store(words, layout, schema, place, stored),
-            Part::Refusing { place, held } => self.release(words, layout, schema, place, held),
+            Part::Storing { closed, stored } => self.store(words, layout, schema, closed, stored),
+            Part::Refusing { closed, held } => self.release(words, layout, schema, closed, held),
         }
     }
 
@@ -245,7 +247,7 @@ impl Commit {
         if let Part::Validating { done } = self.part {
             if done == self.reads.len() {
                 self.part = Part::Storing {
-                    place: 0,
+                    closed: 0,
                     stored: 0,
                 };
             }
@@ -257,8 +259,8 @@ impl Commit {
         ensures { result ≡ is_over self.now self.now.part }
     {
         match self.part {
-            Part::Storing { place, .. } => place == self.item.writes.len(),
-            Part::Refusing { place, held } => place == held,
+            Part::Storing { closed, .. } => closed == self.item.writes.len(),
+            Part::Refusing { closed, held } => closed == held,
             _ => false,
         }
     }

@@ -8,8 +8,10 @@ ghost use Rattle.rl_txn.specs.Eval.{Awaits, awaited, known, reads_room, IsEval};
 ghost use Rattle.rl_txn.specs.declared.op.Op.{Op};
 ghost use Rattle.rl_value.specs.Tables.{Table};
 ghost use Rattle.rl_worker.specs.Phases.{Setting, with_read};
-ghost use Rattle.rl_worker.specs.Opening.{row_of};
-ghost use Rattle.rl_worker.specs.Workers.{IsAsking, IsReading, RecordsFit, IsAct, IsThere, found, word, reading_phase, reading_left, confirmed_phase};
+ghost use Rattle.rl_value.specs.Cells.{row_of};
+ghost use Rattle.rl_worker.specs.Told.{NamesRecord, found, word};
+ghost use Rattle.rl_worker.specs.Workers.{IsReading, RecordsFit, reading_phase};
+ghost use Rattle.rl_worker.specs.Attempts.{IsAct, IsAsking, IsLoad, confirmed_phase};
 
 use crate::act::{Act, Moved};
 use crate::cells::Cells;
@@ -62,9 +64,9 @@ impl Reading {
         requires reading { IsReading schema.now txn.now self.old }
         requires records { RecordsFit schema.now words.now.records.items }
         requires more { (self.old.is_open && nat_le (length (found words.now.records.items self.old.next.rec).cells) (length self.old.next.row)) ≡ false }
-        ensures act { (s : Setting) (w epoch q : ℕ) → IsAct s w epoch (reading_phase q self.old) (reading_left q self.new result.refused) words.now words.now result }
+        ensures act { IsLoad self.old self.new words.now result }
         ensures reading { IsReading schema.now txn.now self.new }
-        ensures there { IsThere schema.now result.refused }
+        ensures there { NamesRecord schema.now result.refused }
     {
         if self.is_open {
             self.column_load(words, schema, txn)
@@ -78,9 +80,9 @@ impl Reading {
         requires reading { IsReading schema.now txn.now self.old }
         requires records { RecordsFit schema.now words.now.records.items }
         requires first { self.old.is_open ≡ false }
-        ensures act { (s : Setting) (w epoch q : ℕ) → IsAct s w epoch (reading_phase q self.old) (reading_left q self.new result.refused) words.now words.now result }
+        ensures act { IsLoad self.old self.new words.now result }
         ensures reading { IsReading schema.now txn.now self.new }
-        ensures there { IsThere schema.now result.refused }
+        ensures there { NamesRecord schema.now result.refused }
     {
         let rec = self.next.rec;
         let record = &words.records[rec as usize];
@@ -101,9 +103,9 @@ impl Reading {
         requires records { RecordsFit schema.now words.now.records.items }
         requires later { self.old.is_open ≡ true }
         requires more { length self.old.next.row < length (found words.now.records.items self.old.next.rec).cells }
-        ensures act { (s : Setting) (w epoch q : ℕ) → IsAct s w epoch (reading_phase q self.old) (reading_left q self.new result.refused) words.now words.now result }
+        ensures act { IsLoad self.old self.new words.now result }
         ensures reading { IsReading schema.now txn.now self.new }
-        ensures there { IsThere schema.now result.refused }
+        ensures there { NamesRecord schema.now result.refused }
     {
         let rec = self.next.rec;
         let cells = &words.records[rec as usize].cells;
@@ -130,7 +132,7 @@ impl Reading {
         requires loaded { length (found words.now.records.items self.next.rec).cells ≤ length self.next.row }
         ensures act { (s : Setting) (w epoch q : ℕ) → IsAct s w epoch (reading_phase q self) (confirmed_phase q result) words.now words.now (record { act = Act.Confirm self.next.rec (word (found words.now.records.items self.next.rec)); refused = result_err result; ended = None }) }
         ensures asking { IfOk result (IsAsking schema.now txn.now) }
-        ensures there { IsThere schema.now (result_err result) }
+        ensures there { NamesRecord schema.now (result_err result) }
     {
         let record = &words.records[self.next.rec as usize];
         let conflict = record.conflict(self.next.rec, self.next.seen, record.holder.is_some());

@@ -5,7 +5,8 @@ ghost use Rattle.rl_value.specs.Fits.{RowsFit};
 ghost use Rattle.rl_tables.specs.Numbers.{sizes_of};
 ghost use Rattle.rl_worker.specs.Opening.{opening_recs};
 ghost use Rattle.rl_worker.specs.Phases.{other};
-ghost use Rattle.rl_worker.specs.Workers.{word, RecordsFit};
+ghost use Rattle.rl_worker.specs.Told.{word};
+ghost use Rattle.rl_worker.specs.Workers.{RecordsFit};
 
 use crate::cells::Cells;
 use rl_base::list::Stamps;
@@ -109,32 +110,5 @@ impl Record {
                 found: word_of(self.stamp),
             })
         }
-    }
-}
-
-#[cfg(test)]
-mod tests {
-    use super::*;
-    use std::test::Fail;
-
-    #[test]
-    fn opens_with_stamps(rt: HostRuntime) -> Result<(), Fail> {
-        let alloc = rt.alloc();
-        let mut schema = Schema::new(alloc);
-        schema.declare(alloc, "t", 2, 2)?;
-        let layout = Layout::new(alloc, &schema)?;
-        let map = Map::new(alloc);
-        let mut stamps = Stamps::new(alloc);
-        stamps.push(0)?;
-        stamps.push(9)?;
-        let words = Words::at(alloc, &layout, &schema, &map, &stamps)?;
-        assert_eq!(rt; words.next, 2);
-        assert_eq!(rt; words.records.len(), 2);
-        for (record, stamp) in words.records.as_slice().iter().zip([0, 9]) {
-            assert_eq!(rt; record.stamp, stamp);
-            assert!(rt; record.holder.is_none());
-            assert_eq!(rt; record.cells.len(), 3);
-        }
-        Ok(())
     }
 }

@@ -14,7 +14,9 @@ ghost use Rattle.rl_worker.specs.declared.commit.Commit.{Commit};
 ghost use Rattle.rl_worker.specs.Phases.{asked, Rest, Setting};
 ghost use Rattle.rl_worker.specs.Acts.{Core, resting, idle, step};
 ghost use Rattle.rl_worker.specs.Opening.{outcome, request, setting_of};
-ghost use Rattle.rl_worker.specs.Workers.{IsAsking, StageFits, stage_phase, phase_of, WorkerFits, RecordsFit, IsAct, IsAttemptOf, Stands, number_of, epoch_of, next_of, decided_item, decided_at, is_reading, is_loaded, Confirms, ran_on, IsCommitting, Commits, ended, is_resting, IsThere, IsActed, Steps, act_made};
+ghost use Rattle.rl_worker.specs.Told.{NamesRecord};
+ghost use Rattle.rl_worker.specs.Workers.{StageFits, stage_phase, phase_of_worker, WorkerFits, RecordsFit, Stands, number_of, epoch_of, next_of, decided_item, decided_at, is_resting, Steps, act_of_step};
+ghost use Rattle.rl_worker.specs.Attempts.{IsAsking, IsAct, IsAttemptOf, HasBegun, is_reading, is_loaded, Confirms, ran_on, IsCommitting, Commits, ended_worker, IsActed};
 
 use crate::act::{Act, Moved};
 use crate::commit::{Commit, Part};
@@ -58,7 +60,7 @@ impl Worker {
     pub fn new(worker: u32, epoch: u32, next: u32) -> Worker
         ensures number { number_of result ≡ worker }
         ensures epoch { epoch_of result ≡ epoch }
-        ensures rests { (tables : List Table) → phase_of tables result ≡ Rest next }
+        ensures rests { (tables : List Table) → phase_of_worker tables result ≡ Rest next }
         ensures next { next_of result ≡ next }
         ensures undecided { decided_item result ≡ None }
         ensures fits { (tables : List Table) (lists : List (List (List Op))) → 1 ≤ worker → worker ≤ length lists → epoch < 2 ^ 20 → WorkerFits tables lists result }
@@ -73,7 +75,7 @@ impl Worker {
 
     /// Whether it is at rest.
     pub fn at_rest(&self) -> bool
-        ensures { (tables : List Table) → result ≡ resting (phase_of tables self.now) }
+        ensures { (tables : List Table) → result ≡ resting (phase_of_worker tables self.now) }
     {
         matches!(self.stage, Stage::Resting)
     }
@@ -97,10 +99,11 @@ impl Worker {
 
     /// Draws a seq for a mark. It rests before and after.
     pub fn idle(&mut self, words: &mut Words) -> u64
-        requires rests { (tables : List Table) → resting (phase_of tables self.old) ≡ true }
+        requires rests { (tables : List Table) → resting (phase_of_worker tables self.old) ≡ true }
         requires next { words.old.next < 2 ^ 40 - 1 }
         ensures drawn { result ≡ words.old.next }
         ensures same { self.new ≡ self.old }
+        ensures words { words.new ≡ record words.old { next = words.old.next + 1 } }
         ensures idle { (tables : List Table) (core : Core) → Stands tables self.old words.old core → Stands tables self.new words.new (idle core (number_of self.old)) }
     {
         let seq = words.next;
@@ -175,8 +178,8 @@ impl Worker {
         }
     }
 
-    /// Begins an attempt of a request, up to the first record that it wants or to its end. Room for
-    /// all of the attempt is taken here; after `Memory` the worker is unchanged.
+    /// Begins an attempt of a request where it rests, up to the first record that it wants or to its end. Room
+    /// for all of the attempt is taken here; after `Memory` the worker is unchanged.
     fn begin(
         &mut self,
         alloc: Global,
@@ -186,15 +189,18 @@ impl Worker {
     ) -> Result<(), Memory>
         requires layout { layout.now ≡ sizes_of schema.now }
         requires txn { TxnFits schema.now txn.now }
-        requires rests { self.old.stage ≡ Stage.Resting }
+        requires fits { StageFits schema.now txn.now self.old self.old.stage }
         requires epoch { self.old.epoch < 2 ^ 20 }
-        ensures begun { OnOk result (IsAttemptOf self.old self.new) }
-        ensures phase { OnOk result (phase_of schema.now self.new ≡ asked self.old.index [] (outcome schema.now txn.now [])) }
+        ensures begun { OnOk result (HasBegun schema.now txn.now self.old self.new) }
+        ensures same { OnOk result (IsAttemptOf self.old self.new) }
         ensures fits { OnOk result (StageFits schema.now txn.now self.new self.new.stage) }
-        ensures undecided { OnOk result (decided_item self.new ≡ None) }
         ensures attempt { OnOk result (is_resting self.new.stage ≡ false) }
+        ensures rests { IsErr result → is_resting self.old.stage ≡ true }
         ensures unchanged { OnErr result (self.new ≡ self.old) }
     {
+        if !self.at_rest() {
+            return Ok(());
+        }
         let reading = Reading::start(alloc, schema, txn)?;
         self.stage = self.run_on(reading, layout, schema, txn);
         Ok(())
@@ -206,11 +212,11 @@ impl Worker {
         requires records { RecordsFit schema.now words.now.records.items }
         requires reads { is_reading self.old.stage ≡ true }
         requires more { is_loaded self.old.stage words.now ≡ false }
-        ensures act { (s : Setting) (w epoch : ℕ) → IsAct s w epoch (phase_of schema.now self.old) (phase_of schema.now self.new) words.now words.now result }
+        ensures act { (s : Setting) (w epoch : ℕ) → IsAct s w epoch (phase_of_worker schema.now self.old) (phase_of_worker schema.now self.new) words.now words.now result }
         ensures attempt { IsAttemptOf self.old self.new }
         ensures fits { StageFits schema.now txn.now self.new self.new.stage }
         ensures undecided { decided_item self.new ≡ None }
-        ensures there { IsThere schema.now result.refused }
+        ensures there { NamesRecord schema.now result.refused }
     {
         let Stage::Reading(reading) = &mut self.stage else {
             unreachable!()
@@ -234,7 +240,7 @@ impl Worker {
         ensures attempt { IsAttemptOf self.old self.new }
         ensures fits { StageFits schema.now txn.now self.new self.new.stage }
         ensures undecided { decided_item self.new ≡ None }
-        ensures there { IsThere schema.now result.refused }
+        ensures there { NamesRecord schema.now result.refused }
     {
         let Stage::Reading(reading) = mem::replace(&mut self.stage, Stage::Resting) else {
             unreachable!()
@@ -282,7 +288,7 @@ impl Worker {
         requires commits { IsCommitting schema.now self.old self.old.stage }
         requires index { self.old.index ≤ 8192 }
         ensures act { Commits schema.now self.old self.new words.old words.new result }
-        ensures there { IsThere schema.now result.refused }
+        ensures there { NamesRecord schema.now result.refused }
         ensures records { RecordsFit schema.now words.new.records.items }
     {
         let Stage::Committing(commit) = &mut self.stage else {
@@ -299,7 +305,7 @@ impl Worker {
     /// Ends the attempt, and answers its item if it was decided.
     fn end(&mut self) -> Option<Item>
         requires { self.old.index ≤ 8192 }
-        ensures { (c : Commit) → self.old.stage ≡ Stage.Committing c → (self.new ≡ ended self.old c) × (result ≡ decided_at self.old.stage) }
+        ensures { (c : Commit) → self.old.stage ≡ Stage.Committing c → (self.new ≡ ended_worker self.old c) × (result ≡ decided_at self.old.stage) }
     {
         let Stage::Committing(commit) = mem::replace(&mut self.stage, Stage::Resting) else {
             return None;
@@ -322,7 +328,7 @@ impl Worker {
         requires records { RecordsFit schema.now words.old.records.items }
         requires next { words.old.next < 2 ^ 40 - 1 }
         ensures acted { IsActed schema.now txn.now self.old self.new words.old words.new result }
-        ensures there { IsThere schema.now result.refused }
+        ensures there { NamesRecord schema.now result.refused }
         ensures records { RecordsFit schema.now words.new.records.items }
     {
         match &self.stage {
@@ -354,211 +360,23 @@ impl Worker {
         requires fits { WorkerFits schema.now lists.now self.old }
         requires records { RecordsFit schema.now words.old.records.items }
         requires next { words.old.next < 2 ^ 40 - 1 }
-        ensures step { (rows : Rows) (stamps : List ℕ) (core : Core) → Stands schema.now self.old words.old core → IfOk result (λ told. Steps schema.now self.old self.new words.new told core (step (setting_of schema.now lists.now rows stamps (epoch_of self.old)) core (number_of self.old))) }
-        ensures act { (rows : Rows) (stamps : List ℕ) (core : Core) → Stands schema.now self.old words.old core → IfOk result (λ told. told.act ≡ act_made (setting_of schema.now lists.now rows stamps (epoch_of self.old)) words.old.next core (number_of self.old)) }
-        ensures there { IfOk result (λ told. IsThere schema.now told.refused) }
+        ensures step { (core : Core) → Stands schema.now self.old words.old core
+            → let setting = setting_of schema.now lists.now (epoch_of self.old) in
+            IfOk result (λ told. Steps schema.now self.old self.new words.new told core (step setting core (number_of self.old))) }
+        ensures act { (core : Core) → Stands schema.now self.old words.old core
+            → let setting = setting_of schema.now lists.now (epoch_of self.old) in
+            IfOk result (λ told. told.act ≡ act_of_step setting words.old.next core (number_of self.old)) }
+        ensures there { IfOk result (λ told. NamesRecord schema.now told.refused) }
         ensures fits { IfOk result (λ _. WorkerFits schema.now lists.now self.new) }
         ensures records { IfOk result (λ _. RecordsFit schema.now words.new.records.items) }
-        ensures at_rest { IsErr result → resting (phase_of schema.now self.old) ≡ true }
+        ensures at_rest { IsErr result → resting (phase_of_worker schema.now self.old) ≡ true }
         ensures unchanged { IsErr result → self.new ≡ self.old }
         ensures unchanged_words { IsErr result → words.new ≡ words.old }
     {
         let Some(txn) = self.request(lists) else {
             return Ok(Moved::by(Act::Rest, None));
         };
-        if self.at_rest() {
-            self.begin(alloc, layout, schema, txn)?;
-            return Ok(self.act(words, layout, schema, txn));
-        }
+        self.begin(alloc, layout, schema, txn)?;
         Ok(self.act(words, layout, schema, txn))
-    }
-}
-
-ghost use Rattle.std.specs.Prelude.{All};
-ghost use Rattle.rl_value.specs.Tables.{columns_of};
-
-#[cfg(test)]
-mod tests {
-    use super::*;
-    use rl_base::list::Stamps;
-    use rl_txn::op::{Op, Operand, Operands, Requests};
-    use rl_value::map::Map;
-    use rl_value::row::Row;
-    use std::process::Abort;
-    use std::test::Fail;
-
-    /// The word of the first stamp that is drawn.
-    const FIRST_WORD: u64 = 2 * ((1 << 40) + 2);
-
-    /// The tables and the requests of an open leader.
-    #[derive(Drop)]
-    struct Leader {
-        schema: Schema,
-        layout: Layout,
-        lists: Lists,
-    }
-
-    /// Adds 1 to a key's column, and puts the sum out.
-    fn adds_one(alloc: Global, schema: &Schema) -> Result<Txn, Memory>
-        requires tables { length schema.now ≡ 1 }
-        requires columns { columns_of schema.now 0 ≡ 1 }
-        ensures { IfOk result (λ txn. TxnFits schema.now txn) }
-    {
-        let (table, key) = (0, Operand::Num(0));
-        let mut values = Operands::new(alloc);
-        values.push(Operand::Reg(0))?;
-        let mut txn = Txn::new(alloc);
-        txn.push(Op::Get {
-            table,
-            key,
-            column: 0,
-            d: 0,
-        })?;
-        txn.push(Op::Add {
-            d: 0,
-            a: Operand::Reg(0),
-            b: Operand::Num(1),
-        })?;
-        txn.push(Op::Put { table, key, values })?;
-        txn.push(Op::Out { a: Operand::Reg(0) })?;
-        Ok(txn)
-    }
-
-    /// The list of a worker with this one request.
-    fn list_of(alloc: Global, schema: &Schema) -> Result<Requests, Memory>
-        requires tables { length schema.now ≡ 1 }
-        requires columns { columns_of schema.now 0 ≡ 1 }
-        ensures fits { IfOk result (λ list. All (TxnFits schema.now) list) }
-        ensures one { IfOk result (λ list. length list ≡ 1) }
-    {
-        let mut list = Requests::new(alloc);
-        list.push(adds_one(alloc, schema)?)?;
-        Ok(list)
-    }
-
-    /// One key, which opens with 10, and two workers that each add 1 to it.
-    fn opened(alloc: Global) -> Result<(Leader, Words), Fail>
-        ensures layout { IfOk result (λ opened. opened.0.layout ≡ sizes_of opened.0.schema) }
-        ensures lists { IfOk result (λ opened. ListsFit opened.0.schema opened.0.lists) }
-        ensures two { IfOk result (λ opened. length opened.0.lists ≡ 2) }
-        ensures records { IfOk result (λ opened. RecordsFit opened.0.schema opened.1.records.items) }
-    {
-        let mut schema = Schema::new(alloc);
-        schema.declare(alloc, "a", 1, 1)?;
-        let layout = Layout::new(alloc, &schema)?;
-        let mut map = Map::new(alloc);
-        map.put(0, 0, Row::from_slice(&[10]))?;
-        let mut stamps = Stamps::new(alloc);
-        stamps.push(0)?;
-        let words = Words::at(alloc, &layout, &schema, &map, &stamps)?;
-        let mut lists = Lists::new(alloc);
-        lists.push(list_of(alloc, &schema)?)?;
-        lists.push(list_of(alloc, &schema)?)?;
-        let leader = Leader {
-            schema,
-            layout,
-            lists,
-        };
-        Ok((leader, words))
-    }
-
-    /// A worker makes these acts. Answers what the last one came to.
-    fn follow(
-        rt: &impl Abort,
-        alloc: Global,
-        leader: &Leader,
-        words: &mut Words,
-        worker: &mut Worker,
-        acts: &[Act],
-    ) -> Result<Moved, Fail>
-        requires layout { leader.now.layout ≡ sizes_of leader.now.schema }
-        requires lists { ListsFit leader.now.schema leader.now.lists }
-        requires records { RecordsFit leader.now.schema words.old.records.items }
-        requires fits { WorkerFits leader.now.schema leader.now.lists worker.old }
-        ensures records { IfOk result (λ _. RecordsFit leader.now.schema words.new.records.items) }
-        ensures fits { IfOk result (λ _. WorkerFits leader.now.schema leader.now.lists worker.new) }
-    {
-        let mut last = Moved::by(Act::Rest, None);
-        for act in acts {
-            assert!(rt; words.next < 10);
-            last = worker.step(alloc, words, &leader.layout, &leader.schema, &leader.lists)?;
-            assert_eq!(rt; last.act, *act);
-        }
-        Ok(last)
-    }
-
-    #[test]
-    fn an_attempt_reads_locks_draws_validates_and_installs(rt: HostRuntime) -> Result<(), Fail> {
-        let alloc = rt.alloc();
-        let (leader, mut words) = opened(alloc)?;
-        let mut worker = Worker::new(1, 1, 1);
-        let (rec, word) = (0, FIRST_WORD);
-        let acts = [
-            Act::FirstLoad { rec, word: 0 },
-            Act::ColumnLoad {
-                rec,
-                column: 0,
-                value: 1,
-            },
-            Act::ColumnLoad {
-                rec,
-                column: 1,
-                value: 10,
-            },
-            Act::Confirm { rec, word: 0 },
-            Act::Lock { rec, word: 0 },
-            Act::Draw { seq: 2 },
-            Act::Validate { rec, word: 1 },
-            Act::ColumnStore {
-                rec,
-                column: 0,
-                value: 1,
-            },
-            Act::ColumnStore {
-                rec,
-                column: 1,
-                value: 11,
-            },
-            Act::Close { rec, word },
-        ];
-        let moved = follow(&rt, alloc, &leader, &mut words, &mut worker, &acts)?;
-        let Some(item) = moved.ended else {
-            return Err("no item".into());
-        };
-        assert_eq!(rt; item.stamp, Stamp { epoch: 1, seq: 2 });
-        assert_eq!(rt; item.reply.outs.as_slice(), [11].as_slice());
-        let moved = follow(&rt, alloc, &leader, &mut words, &mut worker, &[Act::Rest])?;
-        assert!(rt; moved.ended.is_none() && worker.next() == 2);
-        Ok(())
-    }
-
-    #[test]
-    fn a_locked_record_refuses_the_second_worker(rt: HostRuntime) -> Result<(), Fail> {
-        let alloc = rt.alloc();
-        let (leader, mut words) = opened(alloc)?;
-        let mut first = Worker::new(1, 1, 1);
-        let mut second = Worker::new(2, 1, 1);
-        let rec = 0;
-        let acts = [
-            Act::FirstLoad { rec, word: 0 },
-            Act::ColumnLoad {
-                rec,
-                column: 0,
-                value: 1,
-            },
-            Act::ColumnLoad {
-                rec,
-                column: 1,
-                value: 10,
-            },
-            Act::Confirm { rec, word: 0 },
-            Act::Lock { rec, word: 0 },
-        ];
-        follow(&rt, alloc, &leader, &mut words, &mut first, &acts)?;
-        let acts = [Act::FirstLoad { rec, word: 1 }];
-        let moved = follow(&rt, alloc, &leader, &mut words, &mut second, &acts)?;
-        assert_eq!(rt; moved.refused, Some(Refusal::Locked { rec, word: 1 }));
-        assert!(rt; second.at_rest() && second.next() == 1);
-        Ok(())
     }
 }

@@ -1,6 +1,6 @@
 use Rattle.std.proofs.Common.{◌≡◌, ℕ, Some, length, slice_get, subst, sym, arith}
 use Rattle.rl_worker.specs.declared.worker.Worker.{Worker}
-use Rattle.rl_app.specs.Runs.{IsFresh}
+use Rattle.rl_app.specs.Running.{IsFresh}
 use Rattle.rl_app.proofs.Runs.{pushed}
 use Rattle.rl_app.proofs.run.workers.Goals as goal
 

@@ -5,7 +5,8 @@ use Rattle.rl_worker.specs.declared.act.Act.TheVariants as act
 use Rattle.rl_worker.specs.declared.commit.Commit.{Commit}
 use Rattle.rl_worker.specs.declared.words.Words.{Words}
 use Rattle.rl_worker.specs.Opening.{install_of}
-use Rattle.rl_worker.specs.Workers.{commit_phase, IsAct}
+use Rattle.rl_worker.specs.Workers.{commit_phase}
+use Rattle.rl_worker.specs.Attempts.{IsAct}
 use Rattle.rl_worker.proofs.Commits.{found_is, locks, lock_refused}
 use Rattle.rl_worker.proofs.commit.Commit.lock.Goals as goal
 use Rattle.rl_worker.proofs.commit.Commit.lock.Goals.{in-None, in-Some}

@@ -2,7 +2,8 @@ use Rattle.std.proofs.Common.{◌≡◌, ◌<◌, ◌≤◌, ◌==◌, ◌∙◌
 use Rattle.std.specs.FinMap as finite
 use Rattle.rl_tables.specs.Numbers.{sizes_of, place_of}
 use Rattle.rl_txn.specs.Eval.{is_new, known, awaited}
-use Rattle.rl_worker.specs.Opening.{overlay_of, row_of}
+use Rattle.rl_worker.specs.Opening.{overlay_of}
+use Rattle.rl_value.specs.Cells.{row_of}
 use Rattle.rl_worker.specs.Workers.{ReadFits}
 use Rattle.rl_worker.proofs.Commits.{found_is}
 use Rattle.rl_worker.proofs.Readings.{overlay_with, all_with, no_conflict, confirms}

@@ -3,7 +3,8 @@ use Rattle.std.proofs.lemmas.List.FromFn.{length-map-range_with_len}
 use Rattle.rl_tables.specs.Numbers.{place_of, sizes_of}
 use Rattle.rl_worker.specs.declared.words.Record.{Record}
 use Rattle.rl_worker.specs.Opening.{opening_rec}
-use Rattle.rl_worker.specs.Workers.{RecordFits, found}
+use Rattle.rl_worker.specs.Workers.{RecordFits}
+use Rattle.rl_worker.specs.Told.{found}
 use Rattle.rl_worker.proofs.Openings.{opened, opened_more, opened_fits, fits_more}
 use Rattle.rl_worker.proofs.words.Words.at.Goals as goal
 

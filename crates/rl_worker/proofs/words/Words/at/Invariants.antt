@@ -1,7 +1,8 @@
 use Rattle.std.proofs.Common.{◌≡◌, ℕ, ◌<◌, map}
 use Rattle.std.specs.List.{range_with_len}
 use Rattle.rl_worker.specs.Opening.{opening_rec}
-use Rattle.rl_worker.specs.Workers.{RecordFits, found}
+use Rattle.rl_worker.specs.Workers.{RecordFits}
+use Rattle.rl_worker.specs.Told.{found}
 use Rattle.rl_worker.proofs.words.Words.at.Given as goal
 
 abbrev pub invariant-loop-rec : goal.invariant-loop-rec

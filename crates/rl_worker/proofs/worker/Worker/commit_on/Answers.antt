@@ -1,7 +1,8 @@
 use Rattle.std.proofs.Common.{◌∙◌, sym, refl, true, false}
 use Rattle.rl_worker.specs.declared.worker.Stage.TheVariants as stage
 use Rattle.rl_worker.specs.Phases.{Setting}
-use Rattle.rl_worker.specs.Workers.{IsAct, commit_phase}
+use Rattle.rl_worker.specs.Attempts.{IsAct}
+use Rattle.rl_worker.specs.Workers.{commit_phase}
 use Rattle.rl_worker.proofs.Stages.{committed, no_setting}
 use Rattle.rl_worker.proofs.worker.Worker.commit_on.Goals as goal
 

@@ -3,7 +3,9 @@ use Rattle.std.specs.Result.{result_err}
 use Rattle.rl_worker.specs.declared.act.Act.TheVariants as act
 use Rattle.rl_worker.specs.declared.act.Moved as code
 use Rattle.rl_worker.specs.declared.worker.Stage.TheVariants as stage
-use Rattle.rl_worker.specs.Workers.{IsAct, IsReading, StageFits, stage_phase, reading_phase, confirmed_phase, found, word}
+use Rattle.rl_worker.specs.Attempts.{IsAct, confirmed_phase}
+use Rattle.rl_worker.specs.Workers.{IsReading, StageFits, stage_phase, reading_phase}
+use Rattle.rl_worker.specs.Told.{found, word}
 use Rattle.rl_worker.proofs.Commits.{found_is}
 use Rattle.rl_worker.proofs.worker.Worker.confirm.Goals as goal
 

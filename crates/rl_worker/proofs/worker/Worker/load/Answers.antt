@@ -1,6 +1,7 @@
 use Rattle.std.proofs.Common.{◌∙◌, ap, sym, subst}
 use Rattle.rl_worker.specs.Phases.{Rest}
-use Rattle.rl_worker.specs.Workers.{IsAct, stage_phase, reading_phase}
+use Rattle.rl_worker.specs.Attempts.{IsAct}
+use Rattle.rl_worker.specs.Workers.{stage_phase, reading_phase}
 use Rattle.rl_worker.proofs.Stages.{left_rest, left_same}
 use Rattle.rl_worker.proofs.worker.Worker.load.Goals as goal
 
