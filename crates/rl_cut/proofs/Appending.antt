@@ -10,7 +10,7 @@ use Rattle.rl_base.specs.Order.{IsBelow, is_below}
 use Rattle.rl_base.proofs.OrderLemmas.{is_below_tells, below_trans}
 use Rattle.rl_families.specs.Logs.{stamps_in_batch, stamps_along, IsRising, first_stamp, last_stamp}
 use Rattle.rl_families.specs.Families.{AllRise}
-use Rattle.rl_families.proofs.Members.{In}
+use Rattle.rl_base.proofs.Members.{In}
 use Rattle.rl_families.proofs.Logs.{stamps_along-append}
 use Rattle.rl_families.proofs.Rising.{Rises, rises_from, from_rises, above_in, rises_append, last_is, below_last}
 use Rattle.rl_cut.specs.Refusals.{order_refusal}

@@ -15,9 +15,11 @@ log_of_stream family stream = slice_index_or family (stream - 1) []
 -- a first stamp behind a last one has to be above it
 abbrev pub order_refusal : (last first : Option Stamp) → Option ExtendError
 order_refusal last first =
-    option_and_then (λ l. option_and_then (λ f. if is_below l f then None else Some (Order l f)) first) last
+    option_and_then
+    (λ l. option_and_then (λ f. if is_below l f then None else Some (Order l f)) first) last
 
 -- a batch's first stamp has to be above the last of the log
 abbrev pub extend_refusal : (family : List (List Batch)) → (stream : ℕ) → Batch → Option ExtendError
 extend_refusal family stream batch =
-    order_refusal (last_stamp (stamps_along (log_of_stream family stream))) (first_stamp (stamps_in_batch batch))
+    order_refusal (last_stamp (stamps_along (log_of_stream family stream)))
+    (first_stamp (stamps_in_batch batch))

@@ -69,13 +69,14 @@ impl Family {
 
     /// Appends a batch, whose stamps rise, to the log of a stream.
     ///
-    /// `Order` comes exactly where the batch's first stamp is not above the last of the log. After each
-    /// error the family is unchanged.
+    /// `Order` comes exactly where the batch's first stamp is not above the last of the log. After
+    /// each error the family is unchanged.
     pub fn extend(&mut self, stream: u32, batch: Batch) -> Result<(), ExtendError>
         requires first_stream { 1 ≤ stream }
         requires last_stream { stream ≤ length self.old }
         requires rising { IsRising (stamps_in_batch batch) }
-        ensures extended { OnOk result (self.new ≡ slice_set self.old (stream - 1) (log_of_stream self.old stream ++ batch ∷ [])) }
+        ensures extended { OnOk result (self.new ≡ slice_set self.old (stream - 1)
+            (log_of_stream self.old stream ++ batch ∷ [])) }
         ensures refused { IfSome (extend_refusal self.old stream batch) (λ e. result ≡ Err e) }
         ensures else_memory { IfNone (extend_refusal self.old stream batch) (IsOkUnless result ExtendError.Memory) }
         ensures unchanged { OnErr result (self.new ≡ self.old) }
@@ -92,7 +93,8 @@ impl Family {
         requires last_stream { stream ≤ length self.old }
         requires rising { IsRising (stamps_in_batch batch) }
         requires free { extend_refusal self.old stream batch ≡ None }
-        ensures extended { OnOk result (self.new ≡ slice_set self.old (stream - 1) (log_of_stream self.old stream ++ batch ∷ [])) }
+        ensures extended { OnOk result (self.new ≡ slice_set self.old (stream - 1)
+            (log_of_stream self.old stream ++ batch ∷ [])) }
         ensures unchanged { OnErr result (self.new ≡ self.old) }
     {
         let log = &mut self.logs[stream as usize - 1];
@@ -110,8 +112,8 @@ impl Family {
         order_refusal(last, first_of(batch))
     }
 
-    /// The items that the logs decide together: those of each epoch that every log has come to, as far as
-    /// every log has come in it. They are sorted by stamp, and those of one stamp by stream.
+    /// The items that the logs decide together: those of each epoch that every log has come to, as
+    /// far as every log has come in it. They are sorted by stamp, and those of one stamp by stream.
     pub fn history(&self, alloc: Global) -> Result<Items, Memory>
         ensures history { IfOk result (λ items. items ≡ history self.now) }
         ensures rising { AllRise self.now }
@@ -124,7 +126,8 @@ impl Family {
     /// The items that count, stream by stream.
     fn counted(&self, alloc: Global) -> Result<Vec<Item>, Memory>
         ensures rising { AllRise self.now }
-        ensures counted { IfOk result (λ counted. counted.items ≡ filter (λ x. is_counted self.now x.stamp) (flat_map items_along self.now)) }
+        ensures counted { IfOk result (λ counted. counted.items
+            ≡ filter (λ x. is_counted self.now x.stamp) (flat_map items_along self.now)) }
     {
         let mut counted = Vec::new(alloc);
         for log in &self.logs {
@@ -134,7 +137,8 @@ impl Family {
     }
 
     fn push_log(&self, alloc: Global, log: &[Batch], counted: &mut Vec<Item>) -> Result<(), Memory>
-        ensures { OnOk result (counted.new.items ≡ counted.old.items ++ filter (λ x. is_counted self.now x.stamp) (items_along log.now)) }
+        ensures { OnOk result (counted.new.items
+            ≡ counted.old.items ++ filter (λ x. is_counted self.now x.stamp) (items_along log.now)) }
     {
         for batch in log {
             self.push_batch(alloc, batch, counted)?;
@@ -148,7 +152,8 @@ impl Family {
         batch: &Batch,
         counted: &mut Vec<Item>,
     ) -> Result<(), Memory>
-        ensures { OnOk result (counted.new.items ≡ counted.old.items ++ filter (λ x. is_counted self.now x.stamp) (items_in_batch batch.now)) }
+        ensures { OnOk result (counted.new.items
+            ≡ counted.old.items ++ filter (λ x. is_counted self.now x.stamp) (items_in_batch batch.now)) }
     {
         match batch {
             Batch::Items(items) => self.push_items(alloc, items.as_slice(), counted),
@@ -163,7 +168,8 @@ impl Family {
         items: &[Item],
         counted: &mut Vec<Item>,
     ) -> Result<(), Memory>
-        ensures { OnOk result (counted.new.items ≡ counted.old.items ++ filter (λ x. is_counted self.now x.stamp) items.now) }
+        ensures { OnOk result (counted.new.items
+            ≡ counted.old.items ++ filter (λ x. is_counted self.now x.stamp) items.now) }
     {
         for item in items {
             if self.is_counted(item.stamp) {
@@ -177,7 +183,9 @@ impl Family {
     fn is_counted(&self, stamp: Stamp) -> bool
         ensures { result ≡ is_counted self.now stamp }
     {
-        stamp.epoch > 0 && stamp.epoch <= self.least_top() && stamp.seq <= self.all_reached(stamp.epoch)
+        stamp.epoch > 0
+            && stamp.epoch <= self.least_top()
+            && stamp.seq <= self.all_reached(stamp.epoch)
     }
 
     /// The least top of all logs.
@@ -204,8 +212,8 @@ impl Family {
         least.unwrap_or(0)
     }
 
-    /// How far the items of an epoch count: `Final` below the least top, `Rising` at it, and `Beyond`
-    /// above it.
+    /// How far the items of an epoch count: `Final` below the least top, `Rising` at it, and
+    /// `Beyond` above it.
     pub fn bound(&self, epoch: u32) -> Bound
         ensures { result ≡ bound_of self.now epoch }
     {
@@ -221,7 +229,8 @@ impl Family {
         }
     }
 
-    /// The least top and how far every log has come in that epoch, and (0, 0) where the least top is 0.
+    /// The least top and how far every log has come in that epoch, and (0, 0) where the least top
+    /// is 0.
     pub fn watermark(&self) -> (u32, u64)
         ensures { result ≡ watermark self.now }
     {

@@ -11,7 +11,8 @@ use Rattle.rl_base.specs.Order.{IsBelow}
 use Rattle.rl_families.specs.Logs.{stamps_along, items_along, top_epoch, last_seq}
 use Rattle.rl_families.specs.Families.{all_reached, is_counted, history}
 use Rattle.rl_families.specs.Leaders.{logs_of_streams, Leaders, open_mark, initial_log, leader_log, opening_list, own_stamps, AreLeaders, ArePrefixesOfLeaders, ExtendsOpening}
-use Rattle.rl_families.proofs.Members.{In, contains_in, in_contains, in_map, in_front, in_back, in_split, in_filter, filter_in, pre_trans, pre_in}
+use Rattle.rl_base.proofs.Members.{In, contains_in, in_contains}
+use Rattle.rl_families.proofs.Members.{in_map, in_front, in_back, in_split, in_filter, filter_in, pre_trans, pre_in}
 use Rattle.rl_families.proofs.Logs.{stamps_along-append, items_along-append, item_stamp, past_it, stamps_pre, items_pre, split_stamps, split_items, back_stamps}
 use Rattle.rl_families.proofs.Rising.{Rises, rises_from, above_in, rises_append, rises_front, rises_pre, behind, top_among, top_in, top_above}
 use Rattle.rl_families.proofs.Nesting.{least_le, last_settled}

@@ -8,7 +8,8 @@ use Rattle.rl_txn.specs.declared.batch.Batch.{Batch}
 use Rattle.rl_txn.specs.declared.batch.Batch.TheVariants.{Items, Idle, Opened}
 use Rattle.rl_base.specs.Lists.{IsPrefix}
 use Rattle.rl_families.specs.Logs.{stamps_in_batch, items_in_batch, stamps_along, items_along, last_seq_among}
-use Rattle.rl_families.proofs.Members.{In, in_map, in_front, in_back, in_split}
+use Rattle.rl_base.proofs.Members.{In}
+use Rattle.rl_families.proofs.Members.{in_map, in_front, in_back, in_split}
 
 pub stamps_along-append : (xs ys : List Batch) → stamps_along (xs ++ ys) ≡ stamps_along xs ++ stamps_along ys
 stamps_along-append xs ys = flat_map-append stamps_in_batch xs ys

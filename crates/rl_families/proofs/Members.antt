@@ -1,28 +1,10 @@
--- Members of lists, by cases.
-use Rattle.std.proofs.Common.{◌≡◌, ◌⊎◌, ℕ, zero, suc, ◌<◌, List, [], ◌∷◌, ◌++◌, length, get_or, map, All, Contains, Bool, true, false, refl, sym, ap, ◌∙◌, subst, arith, inl, inr, true≢false}
+-- Members of parts of lists.
+use Rattle.std.proofs.Common.{◌≡◌, ◌⊎◌, suc, List, [], ◌∷◌, ◌++◌, map, All, Bool, true, false, refl, sym, ap, ◌∙◌, subst, arith, inl, inr, true≢false}
 use Rattle.std.specs.List.{filter, list_any}
 use Rattle.std.proofs.lemmas.List.{append_assoc}
 use Rattle.std.proofs.lemmas.Bool.{cases_Bool, or_parts, or_cases, or_left, or_right, or_from}
 use Rattle.rl_base.specs.Lists.{IsPrefix}
-
-abbrev pub In : {X : Type 0} → X → List X → Type 0
-In x [] = ⊥
-In x (y ∷ ys) = (x ≡ y) ⊎ In x ys
-
-pub contains_in : {X : Type 0} (xs : List X) (x : X) → Contains xs x → In x xs
-contains_in xs x c = go xs c.0 c.1 c.2
-  where
-    go : (ys : List _) (k : ℕ) → k < length ys → get_or ys k x ≡ x → In x ys
-    go [] k l e = absurd (omega arith)
-    go (y ∷ ys) zero l e = inl (sym e)
-    go (y ∷ ys) (suc k) l e = inr (go ys k (omega arith) e)
-
-pub in_contains : {X : Type 0} (xs : List X) (x : X) → In x xs → Contains xs x
-in_contains [] x i = absurd i
-in_contains (y ∷ ys) x i = elim i [
-  | inl e ↦ (0, omega arith, sym e)
-  | inr j ↦ (let k = in_contains ys x j in (suc k.0, omega (arith, k.1), k.2))
-]
+use Rattle.rl_base.proofs.Members.{In}
 
 pub in_front : {X : Type 0} (y : X) (l rest : List X) → In y l → In y (l ++ rest)
 in_front y [] rest i = absurd i

@@ -7,7 +7,8 @@ use Rattle.rl_txn.specs.declared.batch.Batch.{Batch}
 use Rattle.rl_base.specs.Lists.{IsPrefix}
 use Rattle.rl_base.specs.Order.{IsBelow}
 use Rattle.rl_families.specs.Logs.{stamps_along, IsRising, last_stamp, last_seq_among}
-use Rattle.rl_families.proofs.Members.{In, in_front, in_split}
+use Rattle.rl_base.proofs.Members.{In}
+use Rattle.rl_families.proofs.Members.{in_front, in_split}
 use Rattle.rl_families.proofs.Logs.{stamps_along-append, last_seq_among-append}
 
 -- s is below each of these

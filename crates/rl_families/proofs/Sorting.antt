@@ -6,7 +6,7 @@ use Rattle.rl_base.specs.Order.{is_below}
 use Rattle.rl_base.proofs.OrderLemmas.{below_one_way, not_below_chain}
 use Rattle.rl_txn.specs.declared.item.Item.{Item}
 use Rattle.rl_families.specs.Order.{insert_by_stamp, in_order}
-use Rattle.rl_families.proofs.Members.{In}
+use Rattle.rl_base.proofs.Members.{In}
 
 -- one item is below another
 abbrev pub lower : Item → Item → Bool

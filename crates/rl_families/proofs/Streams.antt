@@ -11,7 +11,8 @@ use Rattle.rl_base.specs.Lists.{IsPrefix}
 use Rattle.rl_families.specs.Logs.{stamps_along, items_along, IsRising, top_epoch, last_seq, last_seq_among}
 use Rattle.rl_families.specs.Families.{least_top, all_reached, is_counted, history, IsInside, AllRise}
 use Rattle.rl_families.specs.Leaders.{logs_of_streams}
-use Rattle.rl_families.proofs.Members.{In, in_front, in_back, in_split, in_filter, filter_in}
+use Rattle.rl_base.proofs.Members.{In}
+use Rattle.rl_families.proofs.Members.{in_front, in_back, in_split, in_filter, filter_in}
 use Rattle.rl_families.proofs.Sorting.{in_in_order, in_order_in}
 use Rattle.rl_families.proofs.Logs.{stamps_along-append, last_seq_among-append}
 use Rattle.rl_families.proofs.Rising.{Rises, from_rises, last_seq_among_in}

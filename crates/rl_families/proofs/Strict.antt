@@ -11,7 +11,8 @@ use Rattle.rl_base.specs.Order.{IsBelow}
 use Rattle.rl_base.proofs.OrderLemmas.{is_below_tells, is_below_from, below_trans}
 use Rattle.rl_families.specs.Order.{insert_by_stamp, in_order}
 use Rattle.rl_families.specs.Logs.{stamps_in_batch, items_in_batch, stamps_along, items_along}
-use Rattle.rl_families.proofs.Members.{In, in_filter, in_map, in_back, in_split}
+use Rattle.rl_base.proofs.Members.{In}
+use Rattle.rl_families.proofs.Members.{in_filter, in_map, in_back, in_split}
 use Rattle.rl_families.proofs.Sorting.{lower, in_insert, in_in_order}
 use Rattle.rl_families.proofs.Logs.{item_stamp}
 use Rattle.rl_families.proofs.Rising.{Rises, above_in, rises_front, rises_back, behind}

@@ -1,5 +1,5 @@
--- Families of logs, one log for each worker's stream, and what they decide together, after Rolis: nothing
--- above the watermark counts.
+-- Families of logs, one log for each worker's stream, and what they decide together, after Rolis:
+-- nothing above the watermark counts.
 use Rattle.std.specs.Prelude.{ℕ, min, List, [], ◌∷◌, Bool, ◌&&◌, ◌==◌, nat_lt, nat_le, if◌then◌else◌, map, filter, All}
 use Rattle.std.specs.List.{flat_map, AllZip}
 use Rattle.rl_base.specs.Lists.{IsPrefix}
@@ -36,8 +36,8 @@ abbrev pub watermark : (family : List (List Batch)) → ℕ × ℕ
 watermark family =
     (least_top family, (if least_top family == 0 then 0 else all_reached family (least_top family)))
 
--- what counts: in each epoch as much as every log has reached, and nothing of an epoch that some log
--- has not come to
+-- what counts: in each epoch as much as every log has reached, and nothing of an epoch that some
+-- log has not come to
 abbrev pub is_counted : (family : List (List Batch)) → Stamp → Bool
 is_counted family s =
     nat_lt 0 s.epoch

@@ -12,7 +12,8 @@ is_up_to_watermark mark s = nat_lt s.epoch mark.0 || ((s.epoch == mark.0) && nat
 
 -- for each family and each larger one along whose logs the stamps rise
 abbrev pub ForNested : ((family larger : List (List Batch)) → Type 0) → Type 0
-ForNested P = (family larger : List (List Batch)) → IsInside family larger → AllRise larger → P family larger
+ForNested P = (family larger : List (List Batch)) → IsInside family larger → AllRise larger
+    → P family larger
 
 -- histories nest: what a family decides, every larger family begins with
 abbrev pub HistoriesNest : Type 0
@@ -23,7 +24,8 @@ abbrev pub WatermarkCuts : Type 0
 WatermarkCuts = ForNested (λ family larger.
     history family ≡ filter (λ x. is_up_to_watermark (watermark family) x.stamp) (history larger))
 
--- the history of prefixes of leaders' logs is empty, or an opening list and what its epoch decided first
+-- the history of prefixes of leaders' logs is empty, or an opening list and what its epoch decided
+-- first
 abbrev pub HistoriesGoOn : Type 0
 HistoriesGoOn = (l : Leaders) (n : ℕ) → AreLeaders l n
     → (log : ℕ → List Batch) → ArePrefixesOfLeaders l n log

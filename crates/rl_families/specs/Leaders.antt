@@ -13,8 +13,8 @@ abbrev pub logs_of_streams : (n : ℕ) → (ℕ → List Batch) → List (List B
 logs_of_streams zero log = []
 logs_of_streams (suc n) log = logs_of_streams n log ++ log (suc n) ∷ []
 
--- by epoch and stream: the log that the epoch's leader recovered, what it proposed since, and what is
--- decided but not proposed yet; by epoch: all that is decided, by rising stamp
+-- by epoch and stream: the log that the epoch's leader recovered, what it proposed since, and what
+-- is decided but not proposed yet; by epoch: all that is decided, by rising stamp
 pub record Leaders : Type 0 where
   pub recovered : (epoch stream : ℕ) → List Batch
   pub proposed : (epoch stream : ℕ) → List Batch
@@ -51,7 +51,8 @@ module _ (l : Leaders) where
     -- what was recovered begins an earlier leader's log
     pub recovers : (e s : ℕ) → 0 < e
         → (before : ℕ) × (before < e) × IsPrefix (l.recovered e s) (leader_log before s)
-    -- what a leader proposes and has still to propose is of its epoch, and its stamps rise along each stream
+    -- what a leader proposes and has still to propose is of its epoch, and its stamps rise along each
+    -- stream
     pub rising : (e s : ℕ) → IsRising (own_stamps e s)
     pub own : (e s : ℕ) (t : Stamp) → Contains (own_stamps e s) t → t.epoch ≡ e
     -- the items that it proposes are decided ones of the stream's worker
@@ -78,6 +79,7 @@ module _ (l : Leaders) where
     pub common : (s : ℕ) → 1 ≤ s → s ≤ n → 0 < last_seq (log s) epoch
     pub is : history (logs_of_streams n log)
         ≡ opening_list n epoch
-          ++ filter (λ x. nat_le x.stamp.seq (all_reached (logs_of_streams n log) epoch)) (l.decided epoch)
+        ++ filter (λ x. nat_le x.stamp.seq (all_reached (logs_of_streams n log) epoch))
+        (l.decided epoch)
     -- and the opening list is the history of what was recovered
     pub opens : opening_list n epoch ≡ history (logs_of_streams n (l.recovered epoch))

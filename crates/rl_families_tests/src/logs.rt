@@ -31,12 +31,7 @@ fn batch_of(alloc: Global, one: One) -> Result<Batch, Memory>
     }
 }
 
-fn extend(
-    alloc: Global,
-    family: &mut Family,
-    stream: u32,
-    one: One,
-) -> Result<(), ExtendError>
+fn extend(alloc: Global, family: &mut Family, stream: u32, one: One) -> Result<(), ExtendError>
     requires first_stream { 1 ≤ stream }
     requires last_stream { stream ≤ length family.old }
     ensures { length family.new ≡ length family.old }
@@ -94,8 +89,17 @@ fn what_counts(rt: HostRuntime) -> Result<(), Fail> {
     decides(&rt, alloc, &silent, (1, 1), &[])?;
     let idle = family_of(alloc, &first, &[One::Opened(1), One::Idle(1, 2)])?;
     decides(&rt, alloc, &idle, (1, 2), &[(1, 2)])?;
-    let first = [One::Opened(1), One::Item(1, 2), One::Item(1, 4), One::Opened(2)];
-    let cut = family_of(alloc, &first, &[One::Opened(1), One::Item(1, 3), One::Opened(2)])?;
+    let first = [
+        One::Opened(1),
+        One::Item(1, 2),
+        One::Item(1, 4),
+        One::Opened(2),
+    ];
+    let cut = family_of(
+        alloc,
+        &first,
+        &[One::Opened(1), One::Item(1, 3), One::Opened(2)],
+    )?;
     decides(&rt, alloc, &cut, (2, 1), &[(1, 2), (1, 3)])?;
     Ok(())
 }

@@ -79,7 +79,10 @@ fn play(
 }
 
 fn value(replica: &Replica) -> u64 {
-    replica.map().get(0, 0).map_or(0, |row| row.column_or_zero(0))
+    replica
+        .map()
+        .get(0, 0)
+        .map_or(0, |row| row.column_or_zero(0))
 }
 
 fn two_streams(alloc: Global) -> Result<Replica, Memory>

@@ -19,7 +19,15 @@ fn in_order_up_to_a_stamp(rt: HostRuntime) {
         let stamp = Stamp { epoch: 1, seq };
         assert!(rt; queue.push(item(alloc, stamp, Seq::new(alloc))).is_ok());
     }
-    for (upto, want) in [(1, None), (3, Some(2)), (3, None), (4, Some(4)), (4, Some(3)), (9, None)] {
+    let table = [
+        (1, None),
+        (3, Some(2)),
+        (3, None),
+        (4, Some(4)),
+        (4, Some(3)),
+        (9, None),
+    ];
+    for (upto, want) in table {
         assert_eq!(rt; released(&mut queue, upto), want);
     }
 }

@@ -48,8 +48,8 @@ impl Queue {
         }
     }
 
-    /// Takes the front item out, where its packed stamp is at most `upto`, and answers `None` exactly
-    /// where the queue is empty or the front's stamp is above it.
+    /// Takes the front item out, where its packed stamp is at most `upto`, and answers `None`
+    /// exactly where the queue is empty or the front's stamp is above it.
     pub fn release(&mut self, upto: u64) -> Option<Item>
         ensures front { IfSome result (λ item. self.old ≡ item ∷ self.new) }
         ensures low { IfSome result (λ item. packed item.stamp ≤ upto) }

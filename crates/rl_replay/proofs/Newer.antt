@@ -12,7 +12,8 @@ use Rattle.rl_base.proofs.OrderLemmas.{not_below_self, below_one_way, not_below_
 use Rattle.rl_replay.specs.Replay.{is_at, writes_at, is_overwritten, newest_writes}
 use Rattle.rl_replay.specs.Newest.{Newest, is_old, fresh, stamped, IsNewestOf, IsNewest, AreNewest}
 use Rattle.rl_replay.proofs.Places.{at_same}
-use Rattle.rl_families.proofs.Members.{In, in_front, in_back, in_split, contains_in, in_contains, any_true, any_false, false_any, true_any}
+use Rattle.rl_base.proofs.Members.{In, contains_in, in_contains}
+use Rattle.rl_families.proofs.Members.{in_front, in_back, in_split, any_true, any_false, false_any, true_any}
 use Rattle.rl_replay.proofs.Stamped.{fresh_at}
 
 -- the newest stamp of a place tells whether a write there is overwritten

@@ -13,7 +13,7 @@ use Rattle.rl_txn.specs.declared.write.Write.{Write}
 use Rattle.rl_txn.specs.Serial.{after_writes, rows_after}
 use Rattle.rl_base.specs.Order.{is_below}
 use Rattle.rl_families.specs.Order.{insert_by_stamp, in_order}
-use Rattle.rl_families.proofs.Members.{In, in_contains}
+use Rattle.rl_base.proofs.Members.{In, in_contains}
 use Rattle.rl_families.proofs.Sorting.{lower, Sorted, in_order_sorted, lower_one_way, least_trans, least_at, in_in_order}
 use Rattle.rl_base.proofs.OrderLemmas.{below_other}
 use Rattle.rl_replay.specs.Replay.{is_at, writes_at, is_overwritten, newest_writes, writes_made, AreDistinct}

@@ -1,5 +1,5 @@
--- The stamp of the newest write of each key, by which a replica tells whether a write is out of date. No
--- public contract cites it.
+-- The stamp of the newest write of each key, by which a replica tells whether a write is out of
+-- date. No public contract cites it.
 use Rattle.std.specs.Prelude.{◌≡◌, ℕ, List, Bool, true, false, not, filter, if◌then◌else◌, Contains, Option, Some, None, MatchOption}
 use Rattle.std.specs.List.{list_any}
 use Rattle.std.specs.FinMap as finite
@@ -37,7 +37,8 @@ pub record IsNewestOf (applied : List Item) (q : ℕ × ℕ) (s : Stamp) : Type 
 
 -- the newest stamp of a place, if it has one
 abbrev pub IsNewest : List Item → ℕ × ℕ → Option Stamp → Type 0
-IsNewest applied q newest = MatchOption newest ((x : Item) → Contains applied x → writes_at q x ≡ false) (IsNewestOf applied q)
+IsNewest applied q newest =
+    MatchOption newest ((x : Item) → Contains applied x → writes_at q x ≡ false) (IsNewestOf applied q)
 
 -- the newest stamp of each place
 abbrev pub AreNewest : List Item → Newest → Type 0

@@ -1,5 +1,5 @@
--- A replica: it goes over the known prefixes of the streams in any order, applies what counts, and lets the
--- newer stamp win on each key (Rolis).
+-- A replica: it goes over the known prefixes of the streams in any order, applies what counts, and
+-- lets the newer stamp win on each key (Rolis).
 use Rattle.std.specs.Prelude.{◌≡◌, ◌≢◌, ℕ, ◌+◌, ◌-◌, List, [], ◌∷◌, ◌++◌, Bool, true, not, ◌&&◌, ◌==◌, nat_le, if◌then◌else◌, filter, take, slice_index, slice_set, AllPairs, All, Any, Contains, Option, option_to_list, option_and_then}
 use Rattle.std.specs.List.{list_any}
 use Rattle.std.specs.Option.{option_map_or}
@@ -17,20 +17,21 @@ use Rattle.rl_replay.specs.Entries.{Entry, entry_at}
 use Rattle.rl_replay.specs.declared.played.Played.{Played}
 use Rattle.rl_replay.specs.declared.played.Played.TheVariants.{Applied, Passed, Above, Empty}
 
--- a replica: the items that it has applied, how many entries of each stream it has played, its rows, and
--- whether it was ever out of memory
+-- a replica: the items that it has applied, how many entries of each stream it has played, its
+-- rows, and whether it was ever out of memory
 pub record Replaying : Type 0 where
   pub applied : List Item
   pub played : List ℕ
   pub rows : Rows
   pub failed : Bool
 
--- the entry that is next on a stream, in a prefix of its log that is known; streams are numbered from 1
+-- the entry that is next on a stream, in a prefix of its log that is known; streams are numbered
+-- from 1
 abbrev pub next_entry : Replaying → (s : ℕ) → (known : List Batch) → Option Entry
 next_entry r s known = entry_at known (slice_index r.played (s - 1))
 
--- what becomes of an item: one of a settled epoch counts up to that epoch's bound, one of the epoch of the
--- watermark up to the watermark, and a later one does not count yet
+-- what becomes of an item: one of a settled epoch counts up to that epoch's bound, one of the epoch
+-- of the watermark up to the watermark, and a later one does not count yet
 abbrev pub item_answer : Stamp → Bound → (watermark : ℕ) → Played
 item_answer s (Final seq) w = if nat_le s.seq seq then Applied s else Passed s
 item_answer s (Rising seq) w = if nat_le s.seq w then Applied s else Above s w
@@ -73,7 +74,8 @@ is_overwritten applied s q = list_any (λ y. is_below s y.stamp && writes_at q y
 
 -- the writes of an item that are newest on their keys
 abbrev pub newest_writes : List Item → Item → List Write
-newest_writes applied x = filter (λ w. not (is_overwritten applied x.stamp (w.table, w.key))) x.writes
+newest_writes applied x =
+    filter (λ w. not (is_overwritten applied x.stamp (w.table, w.key))) x.writes
 
 -- the writes that an answer makes
 abbrev pub writes_made : (applied added : List Item) → List Write
@@ -97,7 +99,8 @@ AreDistinct xs = AllPairs (λ x y. x.stamp ≢ y.stamp) xs
 abbrev pub IsReplay : Rows → Replaying → Type 0
 IsReplay opening r = AreDistinct r.applied → r.rows ≡ rows_after opening (in_order r.applied)
 
--- out of memory: a prefix of the writes that the answer would have made is made, and nothing else has changed
+-- out of memory: a prefix of the writes that the answer would have made is made, and nothing else
+-- has changed
 pub record HasFailed (p : Played) (next : Option Entry) (old new : Replaying) : Type 0 where
   pub failed : new.failed ≡ true
   pub applied : new.applied ≡ old.applied
@@ -115,7 +118,8 @@ HaveSameStamps xs ys = All (λ y. HasStamp xs y.stamp) ys × All (λ x. HasStamp
 
 -- both lists have the same items
 abbrev pub IsSameSet : List Item → List Item → Type 0
-IsSameSet xs ys = ((x : Item) → Contains xs x → Contains ys x) × ((x : Item) → Contains ys x → Contains xs x)
+IsSameSet xs ys =
+    ((x : Item) → Contains xs x → Contains ys x) × ((x : Item) → Contains ys x → Contains xs x)
 
 -- no two different items of both lists have one stamp
 abbrev pub StampsIdentify : List Item → List Item → Type 0

@@ -5,9 +5,10 @@ ghost use Rattle.rl_replay.specs.Entries.{entries_of, entry_at};
 
 use rl_txn::batch::Batch;
 
-/// The batch with the entry of a number, and the index of the entry there; none past the last entry.
+/// The batch with the entry of a number, and the index of the entry there; none past the last.
 pub fn find(log: &[Batch], n: u128) -> Option<(&Batch, usize)>
-    ensures entry { MatchOption result (entry_at log.now n ≡ None) (λ at. slice_get (entries_of at.0.now) at.1 ≡ entry_at log.now n) }
+    ensures entry { MatchOption result (entry_at log.now n ≡ None)
+        (λ at. slice_get (entries_of at.0.now) at.1 ≡ entry_at log.now n) }
     ensures index { MatchOption result (entry_at log.now n ≡ None) (λ at. at.1 < length (entries_of at.0.now)) }
     ensures small { MatchOption result (entry_at log.now n ≡ None) (λ _. n + 1 < 2 ^ 128) }
 {

@@ -17,9 +17,13 @@ pub type Newest = Places<Stamp>;
 /// Makes each write of an item, unless its key has a newer one. After `Memory` a prefix of these
 /// writes is made.
 pub fn apply_newest(map: &mut Map, newest: &mut Newest, item: &Item) -> Result<(), Memory>
-    ensures rows { OnOk result (map.new ≡ after_writes map.old (fresh newest.old item.now.stamp item.now.writes)) }
-    ensures stamps { OnOk result ((q : ℕ × ℕ) → finite.get newest.new q ≡ stamped (finite.get newest.old q) item.now.stamp q (fresh newest.old item.now.stamp item.now.writes)) }
-    ensures prefix { OnErr result ((n : ℕ) × (map.new ≡ after_writes map.old (take n (fresh newest.old item.now.stamp item.now.writes)))) }
+    ensures rows { OnOk result (map.new
+        ≡ after_writes map.old (fresh newest.old item.now.stamp item.now.writes)) }
+    ensures stamps { OnOk result ((q : ℕ × ℕ) → finite.get newest.new q
+        ≡ stamped (finite.get newest.old q) item.now.stamp q
+        (fresh newest.old item.now.stamp item.now.writes)) }
+    ensures prefix { OnErr result ((n : ℕ) × (map.new
+        ≡ after_writes map.old (take n (fresh newest.old item.now.stamp item.now.writes)))) }
 {
     for write in item.writes.as_slice() {
         apply_one(map, newest, item.stamp, write)?;
@@ -30,7 +34,8 @@ pub fn apply_newest(map: &mut Map, newest: &mut Newest, item: &Item) -> Result<(
 /// Makes a write, unless its key has a newer one. After `Memory` the map is unchanged.
 fn apply_one(map: &mut Map, newest: &mut Newest, stamp: Stamp, write: &Write) -> Result<(), Memory>
     ensures rows { OnOk result (map.new ≡ after_writes map.old (fresh newest.old stamp (write.now ∷ []))) }
-    ensures stamps { OnOk result ((q : ℕ × ℕ) → finite.get newest.new q ≡ stamped (finite.get newest.old q) stamp q (fresh newest.old stamp (write.now ∷ []))) }
+    ensures stamps { OnOk result ((q : ℕ × ℕ) → finite.get newest.new q
+        ≡ stamped (finite.get newest.old q) stamp q (fresh newest.old stamp (write.now ∷ []))) }
     ensures unchanged { OnErr result (map.new ≡ map.old) }
 {
     if is_old(newest, stamp, write) {

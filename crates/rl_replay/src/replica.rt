@@ -47,15 +47,20 @@ impl Model for Replica {
 }
 
 impl Replica {
-    /// A replica of the opening rows, which are of the schema, that has played nothing of streams 1 to
-    /// `streams`.
+    /// A replica of the opening rows, which are of the schema, that has played nothing of streams 1
+    /// to `streams`.
     pub fn new(
         alloc: Global,
         _schema: &Schema,
         opening: &Map,
         streams: u32,
     ) -> Result<Replica, Memory>
-        ensures { IfOk result (λ replica. replica ≡ record { applied = []; played = replicate streams 0; rows = opening.now; failed = false }) }
+        ensures { IfOk result (λ replica. replica ≡ record {
+          applied = [];
+          played = replicate streams 0;
+          rows = opening.now;
+          failed = false;
+        }) }
     {
         let mut played = Vec::with_capacity(alloc, streams as usize)?;
         for _stream in 0..streams {
@@ -77,24 +82,26 @@ impl Replica {
         &self.map
     }
 
-    /// The epoch of the next entry of a stream, in the first `known` batches of its log; none where these
-    /// are played out.
+    /// The epoch of the next entry of a stream, in the first `known` batches of its log; none where
+    /// these are played out.
     pub fn next_epoch_of(&self, stream: u32, log: &Batches, known: u32) -> Option<u32>
         requires first_stream { 1 ≤ stream }
         requires last_stream { stream ≤ length self.now.played }
         requires known { known ≤ length log.now }
-        ensures { result ≡ option_map (λ e. e.stamp.epoch) (next_entry self.now stream (take known log.now)) }
+        ensures { result
+            ≡ option_map (λ e. e.stamp.epoch) (next_entry self.now stream (take known log.now)) }
     {
         let known = &log.as_slice()[..known as usize];
         let (batch, index) = find(known, self.played[stream as usize - 1])?;
         Some(epoch_at(batch, index))
     }
 
-    /// Plays the next entry of a stream, in the first `known` batches of its log, with the bound of the
-    /// entry's epoch and the seq of the watermark.
+    /// Plays the next entry of a stream, in the first `known` batches of its log, with the bound of
+    /// the entry's epoch and the seq of the watermark.
     ///
-    /// `Memory` leaves the applied items and the cursors as they were. A prefix of the writes of an item that
-    /// was to be applied may stand in the rows then; every later `play` answers `Memory` and changes nothing.
+    /// `Memory` leaves the applied items and the cursors as they were. A prefix of the writes of an
+    /// item that was to be applied may stand in the rows then; every later `play` answers `Memory`
+    /// and changes nothing.
     pub fn play(
         &mut self,
         alloc: Global,
@@ -107,10 +114,13 @@ impl Replica {
         requires first_stream { 1 ≤ stream }
         requires last_stream { stream ≤ length self.old.played }
         requires known { known ≤ length log.now }
-        ensures answer { IfOk result (λ p. p ≡ play_answer (next_entry self.old stream (take known log.now)) bound watermark) }
-        ensures state { IfOk result (λ p. self.new ≡ after_answer self.old stream (next_entry self.old stream (take known log.now)) p) }
+        ensures answer { let next = next_entry self.old stream (take known log.now) in
+            IfOk result (λ p. p ≡ play_answer next bound watermark) }
+        ensures state { let next = next_entry self.old stream (take known log.now) in
+            IfOk result (λ p. self.new ≡ after_answer self.old stream next p) }
         ensures replay { (opening : Rows) → IsReplay opening self.old → OnOk result (IsReplay opening self.new) }
-        ensures err { let next = next_entry self.old stream (take known log.now) in OnErr result (HasFailed (play_answer next bound watermark) next self.old self.new) }
+        ensures err { let next = next_entry self.old stream (take known log.now) in
+            OnErr result (HasFailed (play_answer next bound watermark) next self.old self.new) }
         ensures stays_failed { self.old.failed ≡ true → IsErr result }
         ensures failed_is_kept { self.old.failed ≡ true → self.new ≡ self.old }
     {
@@ -140,8 +150,10 @@ impl Replica {
         requires working { self.old.failed ≡ false }
         requires index { index < length (entries_of batch.now) }
         ensures answer { IfOk result (λ p. p ≡ play_answer (slice_get (entries_of batch.now) index) bound watermark) }
-        ensures state { IfOk result (λ p. self.new ≡ after_answer self.old stream (slice_get (entries_of batch.now) index) p) }
-        ensures err { let next = slice_get (entries_of batch.now) index in OnErr result (HasFailed (play_answer next bound watermark) next self.old self.new) }
+        ensures state { let next = slice_get (entries_of batch.now) index in
+            IfOk result (λ p. self.new ≡ after_answer self.old stream next p) }
+        ensures err { let next = slice_get (entries_of batch.now) index in
+            OnErr result (HasFailed (play_answer next bound watermark) next self.old self.new) }
     {
         match batch {
             Batch::Items(items) => {
@@ -166,7 +178,8 @@ impl Replica {
         requires working { self.old.failed ≡ false }
         ensures answer { IfOk result (λ p. p ≡ item_answer item.now.stamp bound watermark) }
         ensures state { IfOk result (λ p. self.new ≡ after_answer self.old stream (Some (item_entry item.now)) p) }
-        ensures err { OnErr result (HasFailed (item_answer item.now.stamp bound watermark) (Some (item_entry item.now)) self.old self.new) }
+        ensures err { let next = Some (item_entry item.now) in
+            OnErr result (HasFailed (item_answer item.now.stamp bound watermark) next self.old self.new) }
     {
         match answer_item(item.stamp, bound, watermark) {
             Played::Applied { stamp } => self.apply(alloc, stream, item),
@@ -183,8 +196,11 @@ impl Replica {
         requires room { slice_index self.old.played (stream - 1) + 1 < 2 ^ 128 }
         requires working { self.old.failed ≡ false }
         ensures answer { IfOk result (λ p. p ≡ Played.Applied item.now.stamp) }
-        ensures state { OnOk result (self.new ≡ after_answer self.old stream (Some (item_entry item.now)) (Played.Applied item.now.stamp)) }
-        ensures err { OnErr result (HasFailed (Played.Applied item.now.stamp) (Some (item_entry item.now)) self.old self.new) }
+        ensures state { let next = Some (item_entry item.now) in
+            OnOk result (self.new
+            ≡ after_answer self.old stream next (Played.Applied item.now.stamp)) }
+        ensures err { let next = Some (item_entry item.now) in
+            OnErr result (HasFailed (Played.Applied item.now.stamp) next self.old self.new) }
     {
         self.keep(alloc, item)?;
         self.advance(stream);
@@ -194,8 +210,12 @@ impl Replica {
     /// Keeps an item and makes its writes.
     fn keep(&mut self, alloc: Global, item: &Item) -> Result<(), Memory>
         requires { self.old.failed ≡ false }
-        ensures kept { OnOk result (self.new ≡ record self.old { applied = self.old.applied ++ item.now ∷ []; rows = after_writes self.old.rows (newest_writes self.old.applied item.now) }) }
-        ensures err { OnErr result (HasFailed (Played.Applied item.now.stamp) (Some (item_entry item.now)) self.old self.new) }
+        ensures kept { OnOk result (self.new ≡ record self.old {
+          applied = self.old.applied ++ item.now ∷ [];
+          rows = after_writes self.old.rows (newest_writes self.old.applied item.now);
+        }) }
+        ensures err { let next = Some (item_entry item.now) in
+            OnErr result (HasFailed (Played.Applied item.now.stamp) next self.old self.new) }
     {
         self.failed = true;
         let kept = self.applied.len();
@@ -214,7 +234,10 @@ impl Replica {
         requires last_stream { stream ≤ length self.old.played }
         requires room { slice_index self.old.played (stream - 1) + 1 < 2 ^ 128 }
         ensures answer { result ≡ Played.Passed stamp }
-        ensures state { self.new ≡ record self.old { played = slice_set self.old.played (stream - 1) (slice_index self.old.played (stream - 1) + 1) } }
+        ensures state { self.new ≡ record self.old {
+          played = slice_set self.old.played (stream - 1)
+              (slice_index self.old.played (stream - 1) + 1);
+        } }
     {
         self.advance(stream);
         Played::Passed { stamp }
@@ -224,7 +247,10 @@ impl Replica {
         requires first_stream { 1 ≤ stream }
         requires last_stream { stream ≤ length self.old.played }
         requires room { slice_index self.old.played (stream - 1) + 1 < 2 ^ 128 }
-        ensures { self.new ≡ record self.old { played = slice_set self.old.played (stream - 1) (slice_index self.old.played (stream - 1) + 1) } }
+        ensures { self.new ≡ record self.old {
+          played = slice_set self.old.played (stream - 1)
+              (slice_index self.old.played (stream - 1) + 1);
+        } }
     {
         self.played[stream as usize - 1] += 1;
     }
@@ -232,7 +258,8 @@ impl Replica {
     /// Whether every item of a history was applied, and no other, told by their stamps.
     pub fn at_watermark(&self, history: &Items) -> bool
         ensures stamps { IsTrue result ↔ HaveSameStamps self.now.applied history.now }
-        ensures items { StampsIdentify self.now.applied history.now → (IsTrue result ↔ IsSameSet history.now self.now.applied) }
+        ensures items { StampsIdentify self.now.applied history.now
+            → (IsTrue result ↔ IsSameSet history.now self.now.applied) }
     {
         have_same_stamps(&self.applied, history.as_slice())
     }
