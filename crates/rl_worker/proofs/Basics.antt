@@ -1,7 +1,9 @@
 -- Updates of functions, tests, and lists of writes.
-use Rattle.std.proofs.Common.{◌≡◌, ◌≢◌, ◌⊎◌, ℕ, List, [], ◌∷◌, ◌++◌, true, false, Some, None, refl, sym, arith, inl, inr, eq-eqb, ne_eqb, true≢false, ◌<◌, ◌≤◌, Bool, nat_lt, if◌then◌else◌}
+use Rattle.std.proofs.Common.{◌≡◌, ◌≢◌, ◌⊎◌, ℕ, List, [], ◌∷◌, ◌++◌, true, false, Some, None, refl, sym, arith, inl, inr, eq-eqb, ne_eqb, true≢false, ◌<◌, ◌≤◌, Bool, nat_lt, if◌then◌else◌, zero, suc, get_or}
 use Rattle.std.proofs.lemmas.Bool.Decides.{eqb_tells, nat_tests}
-use Rattle.rl_worker.proofs.States.{Install, upd, has, row_at}
+use Rattle.rl_worker.specs.Acts.{resting}
+use Rattle.rl_worker.proofs.States.{Install, Phase, Rest, upd, has, row_at}
+use Rattle.rl_worker.proofs.OwnLaw.{AllRest}
 
 pub upd_same : {A : Type 0} (f : ℕ → A) (i : ℕ) (x : A) → upd f i x i ≡ x
 upd_same f i x = rw (eq-eqb i i refl)
@@ -47,3 +49,9 @@ test_lt a b h = grind (arith, nat_tests)
 
 pub test_ge : (a b : ℕ) → nat_lt a b ≡ false → b ≤ a
 test_ge a b h = grind (arith, nat_tests)
+
+-- each of these workers is at rest
+pub rest_at : (ps : List Phase) (w : ℕ) → AllRest ps → resting (get_or ps w (Rest 0)) ≡ true
+rest_at [] w h = refl
+rest_at (p ∷ ps) zero h = h.0
+rest_at (p ∷ ps) (suc w) h = rest_at ps w h.1

@@ -1,5 +1,5 @@
 -- The acts of a commit are those of its phase.
-use Rattle.std.proofs.Common.{◌≡◌, ℕ, suc, ◌+◌, ◌*◌, ◌^◌, ◌<◌, ◌≤◌, List, [], ◌∷◌, ◌++◌, length, map, get_or, take, drop, set, replicate, true, false, nat_lt, Option, Some, None, refl, sym, ap, ◌∙◌, subst, arith, add-one}
+use Rattle.std.proofs.Common.{◌≡◌, ℕ, suc, ◌+◌, ◌*◌, ◌^◌, ◌<◌, ◌≤◌, List, [], ◌∷◌, ◌++◌, length, map, get_or, take, drop, set, replicate, true, false, nat_lt, Option, Some, None, refl, sym, ap, ◌∙◌, subst, arith, add-one, is_some}
 use Rattle.std.proofs.lemmas.List.{take_more, drop_more, get_or-map, length-map, get_or_default, get_or-take, length-take-le, length-replicate, set-get_or}
 use Rattle.std.proofs.lemmas.Bool.Decides.{nat_tests}
 use Rattle.rl_base.specs.declared.refusal.Refusal.{Refusal}
@@ -14,11 +14,11 @@ use Rattle.rl_worker.specs.declared.words.Words.{Words}
 use Rattle.rl_worker.specs.declared.commit.Commit.{Commit}
 use Rattle.rl_worker.specs.declared.commit.Part.TheVariants as part
 use Rattle.rl_worker.specs.Phases.{Answer, Install, Rec, Phase, Locking, Storing, Refusing, Setting}
-use Rattle.rl_worker.specs.Acts.{no_rec, target, lock_of, act_result, next_after}
+use Rattle.rl_worker.specs.Acts.{no_rec, target, act_result}
 use Rattle.rl_worker.specs.Opening.{install_of}
 use Rattle.rl_value.specs.Cells.{cells_of}
 use Rattle.rl_worker.specs.Told.{found, word, act_of}
-use Rattle.rl_worker.specs.Attempts.{refusal_of, IsAct}
+use Rattle.rl_worker.specs.Attempts.{refusal_of, IsAct, next_after}
 use Rattle.rl_worker.specs.Workers.{part_phase, commit_phase, stamp_next, RecordsFit}
 use Rattle.rl_txn.specs.Fits.{WriteFits, RowHas}
 use Rattle.rl_worker.proofs.Places.{place_of_record}
@@ -112,10 +112,12 @@ module _ (tables : List Table) (c : Commit) (at : ℕ) (w : Write) (w_is : w ≡
 
     pub lock_refused : (v : ℕ) → x.holder ≡ Some v → words'.records.items ≡ set words.records.items r x → told ≡ record { act = act.Lock r (word x); refused = Some (Refusal.Locked r (word x)); ended = None }
         → IsAct s c.item.worker c.item.stamp.epoch (commit_phase tables c) (commit_phase tables (record c { part = part.Refusing 0 at })) words words' told
-    lock_refused v held rs t = act_at s c.item.worker c.item.stamp.epoch (commit_phase tables c) (Locking c.item.index c.reads.0 ans (take at is) (y ∷ drop (at + 1) is)) _ words words' x told (lock_phase p)
+    lock_refused v held rs t =
+        let some : is_some x.holder ≡ true = ap is_some held in
+        act_at s c.item.worker c.item.stamp.epoch (commit_phase tables c) (Locking c.item.index c.reads.0 ans (take at is) (y ∷ drop (at + 1) is)) _ words words' x told (lock_phase p)
         (ap (found words.records.items) (sym r_is) ∙ fx)
         (rw held refl)
-        (subst (λ h. words'.records.items ≡ set words.records.items y.rec (lock_of c.item.worker c.item.index c.reads.0 ans (take at is) y (drop (at + 1) is) x h).rec) (sym held) (rs ∙ ap (λ n. set words.records.items n x) r_is))
+        (rw some (rs ∙ ap (λ n. set words.records.items n x) r_is))
         (rw held now)
         (rw held (ap (λ (m : code.Moved). m.refused) t ∙ ap (λ n. Some (Refusal.Locked n (word x))) r_is ∙ rw held refl))
         (ap (λ (m : code.Moved). m.act) t ∙ ap (λ n. act.Lock n (word x)) r_is)

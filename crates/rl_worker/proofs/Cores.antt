@@ -1,5 +1,5 @@
 -- A step of the code is a step of the core.
-use Rattle.std.proofs.Common.{◌≡◌, ℕ, suc, ◌<◌, List, [], ◌∷◌, ◌++◌, length, get_or, set, Bool, true, false, nat_lt, if◌then◌else◌, ◌==◌, Option, Some, None, IfSome, option_to_list, refl, sym, ap, ◌∙◌, subst}
+use Rattle.std.proofs.Common.{◌≡◌, ℕ, suc, ◌<◌, List, [], ◌∷◌, ◌++◌, length, get_or, set, Bool, true, false, nat_lt, if◌then◌else◌, ◌==◌, Option, Some, None, IfSome, option_to_list, refl, sym, ap, ◌∙◌, subst, is_some}
 use mathlib.Core.Bool.{false≢true}
 use Rattle.std.specs.Option.{option_map}
 use Rattle.std.proofs.lemmas.List.{get_or-set_same, length-set, set-set, set-get_or}
@@ -7,9 +7,10 @@ use Rattle.rl_worker.specs.declared.act.Moved as code
 use Rattle.rl_worker.specs.declared.words.Words.{Words}
 use Rattle.rl_worker.specs.Phases.{Answer, Read, Install, Rec, Phase, Rest, Asking, Wanting, Loading, Locking, Validating, Storing, Refusing, Setting, other, asked, with_read}
 use Rattle.rl_worker.specs.Items.{CoreItem}
-use Rattle.rl_worker.specs.Acts.{Cause, Locked, Changed, Effect, Quiet, Drew, Won, Lost, Core, no_rec, target, quiet, lost, act_result, first_load_of, confirm_of, lock_of, next_after, decided_after, refusals_after, made_after, passing, resting, micro, settle}
+use Rattle.rl_worker.specs.Acts.{Cause, Locked, Changed, Effect, Quiet, Drew, Won, Lost, Core, no_rec, target, quiet, lost, act_result, passing, resting, micro, settle}
+use Rattle.rl_worker.proofs.Parts.{micro_parts, decided_after, refusals_after, made_after}
 use Rattle.rl_worker.specs.Told.{found, refused}
-use Rattle.rl_worker.specs.Attempts.{refusal_of, act_in, IsAct}
+use Rattle.rl_worker.specs.Attempts.{refusal_of, act_in, IsAct, next_after}
 use Rattle.rl_worker.specs.Workers.{stamp_next, with_item}
 use Rattle.rl_worker.specs.Acts as acts
 
@@ -82,7 +83,7 @@ none_made xs Drew h = refl
 none_made xs (Won x) h = absurd (cc)
 none_made xs (Lost f) h = refl
 
--- an act that is act_in wins nothing, and a refusal is that of the phase's request
+-- an act that is made wins nothing, and a refusal is that of the phase's request
 abbrev pub Plain : ℕ → ℕ → Effect → Type 0
 Plain w q e = (won e ≡ None) × IfSome (lost_in e) (λ f. (f.worker ≡ w) × (f.index ≡ q))
 
@@ -90,26 +91,20 @@ plain_test : (w q : ℕ) (b : Bool) (x y : acts.ActResult) → Plain w q x.effec
 plain_test w q true x y h k = h
 plain_test w q false x y h k = k
 
-plain_load : (w q : ℕ) (reads : List Read) (r : ℕ) (x : Rec) (o : Option ℕ) → Plain w q (first_load_of w q reads r x o).effect
-plain_load w q reads r x None = (refl, tt)
-plain_load w q reads r x (Some v) = (refl, (refl, refl))
-
-plain_confirm : (w q : ℕ) (reads : List Read) (r seen : ℕ) (loaded : List ℕ) (x : Rec) (o : Option ℕ) → Plain w q (confirm_of w q reads r seen loaded x o).effect
-plain_confirm w q reads r seen loaded x None = plain_test w q (x.stamp == seen) (quiet x (Asking q (with_read (record { rec = r; seen = seen; row = loaded }) reads))) (lost x (Rest q) w q r (Changed None seen x.stamp)) (refl, tt) (refl, (refl, refl))
-plain_confirm w q reads r seen loaded x (Some v) = (refl, (refl, refl))
-
-plain_lock : (w q : ℕ) (reads : List Read) (answer : Answer) (l : List Install) (y : Install) (todo : List Install) (x : Rec) (o : Option ℕ) → Plain w q (lock_of w q reads answer l y todo x o).effect
-plain_lock w q reads answer l y todo x None = (refl, tt)
-plain_lock w q reads answer l y todo x (Some v) = (refl, (refl, refl))
-
 plain : (s : Setting) (w n : ℕ) (p : Phase) (x : Rec) → passing p ≡ false → Plain w (index_in p) (act_result s w n p x).effect
 plain s w n (Rest q) x h = (refl, tt)
 plain s w n (Asking q reads) x h = absurd (false≢true (sym h))
-plain s w n (Wanting q reads r) x h = plain_load w q reads r x x.holder
+plain s w n (Wanting q reads r) x h =
+    plain_test w q (is_some x.holder) (lost x (Rest q) w q r (Locked x.holder x.stamp)) (quiet x (Loading q reads r x.stamp [])) (refl, (refl, refl)) (refl, tt)
 plain s w n (Loading q reads r seen loaded) x h =
-    plain_test w q (nat_lt (length loaded) (length x.cells)) (quiet x (Loading q reads r seen (loaded ++ get_or x.cells (length loaded) 0 ∷ []))) (confirm_of w q reads r seen loaded x x.holder) (refl, tt) (plain_confirm w q reads r seen loaded x x.holder)
+    let changed = if x.stamp == seen then quiet x (Asking q (with_read (record { rec = r; seen = seen; row = loaded }) reads)) else lost x (Rest q) w q r (Changed x.holder seen x.stamp) in
+    plain_test w q (nat_lt (length loaded) (length x.cells)) (quiet x (Loading q reads r seen (loaded ++ get_or x.cells (length loaded) 0 ∷ [])))
+    (if is_some x.holder then lost x (Rest q) w q r (Locked x.holder x.stamp) else changed) (refl, tt)
+    (plain_test w q (is_some x.holder) (lost x (Rest q) w q r (Locked x.holder x.stamp)) changed (refl, (refl, refl))
+    (plain_test w q (x.stamp == seen) (quiet x (Asking q (with_read (record { rec = r; seen = seen; row = loaded }) reads))) (lost x (Rest q) w q r (Changed x.holder seen x.stamp)) (refl, tt) (refl, (refl, refl))))
 plain s w n (Locking q reads answer l []) x h = (refl, tt)
-plain s w n (Locking q reads answer l (y ∷ todo)) x h = plain_lock w q reads answer l y todo x x.holder
+plain s w n (Locking q reads answer l (y ∷ todo)) x h =
+    plain_test w q (is_some x.holder) (lost x (Refusing q l) w q y.rec (Locked x.holder x.stamp)) (quiet (record x { holder = Some w }) (Locking q reads answer (l ++ y ∷ []) todo)) (refl, (refl, refl)) (refl, tt)
 plain s w n (Validating q t done [] answer writes) x h = absurd (false≢true (sym h))
 plain s w n (Validating q t done (y ∷ todo) answer writes) x h =
     plain_test w q (other w x.holder) (lost x (Refusing q writes) w q y.rec (Locked x.holder x.stamp)) (if x.stamp == y.seen then quiet x (Validating q t (done ++ y ∷ []) todo answer writes) else lost x (Refusing q writes) w q y.rec (Changed x.holder y.seen x.stamp))
@@ -120,7 +115,7 @@ plain s w n (Storing q t j (y ∷ todo)) x h =
 plain s w n (Refusing q []) x h = absurd (false≢true (sym h))
 plain s w n (Refusing q (y ∷ todo)) x h = (refl, tt)
 
--- one act of the core, where the code act_in one
+-- one act of the core, where the code made one
 pub record Acted (core core' : Core) (w : ℕ) (p p' : Phase) (words' : Words) (e : ℕ) (t : code.Moved) : Type 0 where
   pub at : At core' w p' words'.records.items (stamp_next e words')
   pub workers : core'.workers ≡ set core.workers w p'
@@ -142,7 +137,7 @@ acted s core w e p p' words words' told still at a =
     let ev : m.effect ≡ (act_in s w e p words).effect = ap (λ (z : acts.ActResult). z.effect) m_is in
     let ph : m.phase ≡ p' = ap (λ (z : acts.ActResult). z.phase) m_is ∙ sym a.phase in
     let none = plain s w (stamp_next e words) p (found words.records.items (target p)) still in
-    record {
+    subst (λ (z : Core). Acted core z w p p' words' e told) (sym (micro_parts s core w)) (record {
       at = record {
         recs = ap (λ (z : Phase). set core.recs (target z) m.rec) at.phase ∙ ap (λ (rs : List Rec). set rs (target p) m.rec) at.recs ∙ ap (λ (z : acts.ActResult). set words.records.items (target p) z.rec) m_is ∙ sym a.recs;
         next = ap (λ n. next_after n m.effect) at.next ∙ ap (next_after (stamp_next e words)) ev ∙ sym a.next;
@@ -156,7 +151,7 @@ acted s core w e p p' words words' told still at a =
       refusals = lost_added core.refusals m.effect ∙ ap (λ z. option_to_list (lost_in z) ++ core.refusals) ev;
       told = a.refused ∙ lost_told (act_in s w e p words).effect;
       of = none.1;
-    }
+    })
 
 -- the stamp of an item that is won
 abbrev pub stamps_added : Option CoreItem → List (ℕ × ℕ)
@@ -181,7 +176,7 @@ module _ (s : Setting) (core : Core) (w : ℕ) (recs : List Rec) (n : ℕ) where
       let m_is : m ≡ record { phase = p'; rec = found_rec; effect = e } = ap (λ (z : Phase). act_result s w core.next z found_rec) at.phase ∙ is found_rec core.next in
       let ev : m.effect ≡ e = ap (λ (z : acts.ActResult). z.effect) m_is in
       let ph : m.phase ≡ p' = ap (λ (z : acts.ActResult). z.phase) m_is in
-      record {
+      subst (λ (z : Core). Settled core z w p' o recs n) (sym (micro_parts s core w)) (record {
         at = record {
           recs = ap (λ (z : acts.ActResult). set core.recs (target (acts.phase_of core w)) z.rec) m_is ∙ set-get_or core.recs (target (acts.phase_of core w)) no_rec ∙ at.recs;
           next = ap (next_after core.next) ev ∙ same core.next ∙ at.next;
@@ -192,7 +187,7 @@ module _ (s : Setting) (core : Core) (w : ℕ) (recs : List Rec) (n : ℕ) where
         decided = ap (decided_after core.decided) ev ∙ adds core.decided;
         refusals = ap (refusals_after core.refusals) ev ∙ none core.refusals;
         made = ap (made_after core.made) ev ∙ makes core.made;
-      }
+      })
 
   stays : (p : Phase) → At core w p recs n → passing p ≡ false → Settled core (settle s core w) w p None recs n
   stays p at still =

@@ -39,10 +39,6 @@ use Rattle.rl_worker.proofs.Writes.{WriteFits, WritesFit, run_fits, run_distinct
 use Rattle.rl_worker.proofs.Settings.{ending, request_fits, sizes_length, rec_at, rec_past}
 
 -- ---- a transaction on any rows that have what it read ----
-neither : (a b : Bool) → (a || b) ≡ false → (a ≡ false) × (b ≡ false)
-neither true b h = absurd (true≢false h)
-neither false b h = (refl, h)
-
 or_false : (a b : Bool) → a ≡ false → b ≡ false → (a || b) ≡ false
 or_false a b h k = rw h k
 

@@ -14,9 +14,6 @@ pub both : (a b : Bool) → (a && b) ≡ true → (a ≡ true) × (b ≡ true)
 both true b h = (refl, h)
 both false b h = absurd (true≢false (sym h))
 
-pub both_back : (a b : Bool) → a ≡ true → b ≡ true → (a && b) ≡ true
-both_back a b h k = rw (h, k) refl
-
 pub some_same : (v w : ℕ) → ◌≡◌ {A = Option ℕ} (Some v) (Some w) → v ≡ w
 some_same v w e = cc
 

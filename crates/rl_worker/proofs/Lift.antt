@@ -1,5 +1,5 @@
 -- The machine over lists makes the acts of the machine over functions.
-use Rattle.std.proofs.Common.{◌≡◌, ◌⊎◌, ℕ, zero, suc, ◌+◌, ◌<◌, ◌≤◌, List, [], ◌∷◌, ◌++◌, length, get_or, set, true, false, ◌==◌, nat_lt, Option, Some, None, refl, sym, ap, ◌∙◌, subst, arith, inl, inr, true≢false, eqb-true, get_or-set_other, get_or-set_same, length-set, eq-eqb}
+use Rattle.std.proofs.Common.{◌≡◌, ◌⊎◌, ℕ, zero, suc, ◌+◌, ◌<◌, ◌≤◌, List, [], ◌∷◌, ◌++◌, length, get_or, set, true, false, ◌==◌, nat_lt, Option, Some, None, refl, sym, ap, ◌∙◌, subst, arith, inl, inr, true≢false, eqb-true, get_or-set_other, get_or-set_same, length-set, eq-eqb, is_some}
 use Rattle.std.proofs.lemmas.List.{get_or_past}
 use Rattle.std.proofs.lemmas.Bool.{cases_lt}
 use Rattle.rl_worker.proofs.Installs.{none_some}
@@ -9,7 +9,9 @@ use mathlib.Core.Path.{fun_ext}
 use Rattle.rl_worker.proofs.States.{Answer, Read, Install, Rec, Void, Drawn, Decided, Entry, Ends, Phase, Rest, Asking, Wanting, Loading, Locking, Validating, Storing, Refusing, State, upd, has, with_read, goes, sets, asked, other}
 use Rattle.rl_worker.specs.Items.{insert_by_stamp}
 use Rattle.rl_worker.specs.Laws.{IsTrueCause, AllTrue}
-use Rattle.rl_worker.specs.Acts.{Cause, Locked, Changed, Effect, Quiet, Drew, Won, Lost, quiet, lost, first_load_of, confirm_of, lock_of, act_result, Core, no_rec, next_after, decided_after, refusals_after, core_after_act, micro_at}
+use Rattle.rl_worker.specs.Acts.{Cause, Locked, Changed, Effect, Quiet, Drew, Won, Lost, quiet, lost, act_result, Core, no_rec}
+use Rattle.rl_worker.specs.Attempts.{next_after}
+use Rattle.rl_worker.proofs.Parts.{decided_after, refusals_after, parts, micro_at}
 use Rattle.rl_worker.proofs.Basics.{upd_same, upd_other, by_upd, by_test, test_lt, test_ge}
 use Rattle.rl_worker.proofs.Inv.{Inv, Knows}
 use Rattle.rl_worker.proofs.Local.{Lawful, begin_inv, give_up_inv, give_up_load_inv, ask_inv, first_load_inv, column_load_inv, confirm_inv, lock_refused_inv, validate_inv, rest_inv, released_inv}
@@ -79,12 +81,12 @@ module _ (G : Ground) where
     good_of : (k : ℕ) (x : Rec) (p : Phase) (ev : Effect) → (k < length c.recs) ⊎ (x ≡ get_or c.recs k no_rec) → (log : ℕ → Entry) (count : ℕ)
         → Inv G (record { recs = upd σ.recs k x; workers = upd σ.workers w p; log = log; next = next_after c.next ev })
         → G.setting.base + count ≡ next_after c.next ev → decided_after c.decided ev ≡ items_from log G.setting.base count → AllTrue (refusals_after c.refusals ev)
-        → Good (core_after_act c w k (record { phase = p; rec = x; effect = ev }))
+        → Good (parts c w k (record { phase = p; rec = x; effect = ev }))
     good_of k x p ev h log count i n d t = record {
       log = log;
       count = count;
       count_is = n;
-      inv = subst (Inv G) (sym (same_state (lift (core_after_act c w k (record { phase = p; rec = x; effect = ev })) log) (record { recs = upd σ.recs k x; workers = upd σ.workers w p; log = log; next = next_after c.next ev })
+      inv = subst (Inv G) (sym (same_state (lift (parts c w k (record { phase = p; rec = x; effect = ev })) log) (record { recs = upd σ.recs k x; workers = upd σ.workers w p; log = log; next = next_after c.next ev })
           (recs_path k x h) (set_reads c.workers w p (Rest 0) hw) refl refl)) i;
       items = d;
       inside = λ v q given answer writes e r m. rw length-set (g.inside v q given answer writes e r m);
@@ -92,48 +94,59 @@ module _ (G : Ground) where
     }
 
     -- the acts that leave the records
-    local_good : (k : ℕ) (p : Phase) → Inv G (goes σ w p) → Good (core_after_act c w k (quiet (get_or c.recs k no_rec) p))
+    local_good : (k : ℕ) (p : Phase) → Inv G (goes σ w p) → Good (parts c w k (quiet (get_or c.recs k no_rec) p))
     local_good k p i = good_of k (get_or c.recs k no_rec) p Quiet (inr refl) g.log g.count (rw (upd_back σ.recs k) i) g.count_is g.items g.causes
 
-    lost_good : (q k : ℕ) (p : Phase) (cause : Cause) → IsTrueCause w cause → Inv G (goes σ w p) → Good (core_after_act c w k (lost (get_or c.recs k no_rec) p w q k cause))
+    lost_good : (q k : ℕ) (p : Phase) (cause : Cause) → IsTrueCause w cause → Inv G (goes σ w p) → Good (parts c w k (lost (get_or c.recs k no_rec) p w q k cause))
     lost_good q k p cause t i = good_of k (get_or c.recs k no_rec) p (Lost (record { worker = w; index = q; rec = k; cause = cause })) (inr refl) g.log g.count (rw (upd_back σ.recs k) i) g.count_is g.items (t, g.causes)
 
-    sets_good : (k : ℕ) (x : Rec) (p : Phase) → k < length c.recs → Inv G (sets σ k x w p) → Good (core_after_act c w k (quiet x p))
+    sets_good : (k : ℕ) (x : Rec) (p : Phase) → k < length c.recs → Inv G (sets σ k x w p) → Good (parts c w k (quiet x p))
     sets_good k x p h i = good_of k x p Quiet (inl h) g.log g.count i g.count_is g.items g.causes
 
     -- the holder of a record that w does not hold is another worker
-    other_holder : (k v : ℕ) → (get_or c.recs k no_rec).holder ≡ Some v → held (σ.workers w) k ≡ false → other w (Some v) ≡ true
-    other_holder k v h n = elim (eqb_tells v w) [
-      | inl i ↦ absurd (true≢false (sym (g.inv.owner k w (h ∙ ap Some i.1)) ∙ n))
-      | inr m ↦ rw m.0 refl
-    ]
+    other_holder : (k : ℕ) → is_some (get_or c.recs k no_rec).holder ≡ true → held (σ.workers w) k ≡ false → other w (get_or c.recs k no_rec).holder ≡ true
+    other_holder k h n = go (get_or c.recs k no_rec).holder refl h
+      where
+        go : (o : Option ℕ) → (get_or c.recs k no_rec).holder ≡ o → is_some o ≡ true → other w o ≡ true
+        go None e some = absurd (true≢false (sym some))
+        go (Some v) e some = elim (eqb_tells v w) [
+          | inl i ↦ absurd (true≢false (sym (g.inv.owner k w (e ∙ ap Some i.1)) ∙ n))
+          | inr m ↦ rw m.0 refl
+        ]
 
-    first_load_good : (q : ℕ) (reads : List Read) (r : ℕ) → σ.workers w ≡ Wanting q reads r → (h : Option ℕ) → (get_or c.recs r no_rec).holder ≡ h
-        → Good (core_after_act c w r (first_load_of w q reads r (get_or c.recs r no_rec) h))
-    first_load_good q reads r e None f = local_good r (Loading q reads r (σ.recs r).stamp []) (first_load_inv G L σ w q r reads g.inv e)
-    first_load_good q reads r e (Some v) f = lost_good q r (Rest q) (Locked (Some v) (σ.recs r).stamp) (other_holder r v f (rw e refl)) (give_up_inv G L σ w q r reads g.inv e)
+    is_free : (o : Option ℕ) → is_some o ≡ false → o ≡ None
+    is_free None e = refl
+    is_free (Some v) e = absurd (true≢false e)
 
-    confirm_good : (q : ℕ) (reads : List Read) (r seen : ℕ) (loaded : List ℕ) → σ.workers w ≡ Loading q reads r seen loaded → length (σ.recs r).cells ≤ length loaded
-        → (h : Option ℕ) → (get_or c.recs r no_rec).holder ≡ h → Good (core_after_act c w r (confirm_of w q reads r seen loaded (get_or c.recs r no_rec) h))
-    confirm_good q reads r seen loaded e long None f = by_test (λ z. Good (core_after_act c w r z)) ((σ.recs r).stamp == seen) _ _
-        (λ t. local_good r (Asking q (with_read (record { rec = r; seen = seen; row = loaded }) reads)) (confirm_inv G L σ w q r seen reads loaded g.inv e long f (eqb-true (σ.recs r).stamp seen t)))
-        (λ t. lost_good q r (Rest q) (Changed None seen (σ.recs r).stamp) (refl, λ i. true≢false (sym (eq-eqb (σ.recs r).stamp seen i) ∙ t)) (give_up_load_inv G L σ w q r seen reads loaded g.inv e))
-    confirm_good q reads r seen loaded e long (Some v) f = lost_good q r (Rest q) (Locked (Some v) (σ.recs r).stamp) (other_holder r v f (rw e refl)) (give_up_load_inv G L σ w q r seen reads loaded g.inv e)
+    first_load_good : (q : ℕ) (reads : List Read) (r : ℕ) → σ.workers w ≡ Wanting q reads r → Good (micro_at G.setting c w (Wanting q reads r))
+    first_load_good q reads r e = by_test (λ z. Good (parts c w r z)) (is_some (σ.recs r).holder) _ _
+        (λ h. lost_good q r (Rest q) (Locked (σ.recs r).holder (σ.recs r).stamp) (other_holder r h (rw e refl)) (give_up_inv G L σ w q r reads g.inv e))
+        (λ h. local_good r (Loading q reads r (σ.recs r).stamp []) (first_load_inv G L σ w q r reads g.inv e))
+
+    load_good : (q : ℕ) (reads : List Read) (r seen : ℕ) (loaded : List ℕ) → σ.workers w ≡ Loading q reads r seen loaded → Good (micro_at G.setting c w (Loading q reads r seen loaded))
+    load_good q reads r seen loaded e = by_test (λ z. Good (parts c w r z)) (nat_lt (length loaded) (length (σ.recs r).cells)) _ _
+        (λ t. local_good r (Loading q reads r seen (loaded ++ get_or (σ.recs r).cells (length loaded) 0 ∷ [])) (column_load_inv G L σ w q r seen reads loaded g.inv e (test_lt (length loaded) (length (σ.recs r).cells) t)))
+        (λ t. by_test (λ z. Good (parts c w r z)) (is_some (σ.recs r).holder) _ _
+        (λ h. lost_good q r (Rest q) (Locked (σ.recs r).holder (σ.recs r).stamp) (other_holder r h (rw e refl)) (give_up_load_inv G L σ w q r seen reads loaded g.inv e))
+        (λ h. let free = is_free (σ.recs r).holder h in by_test (λ z. Good (parts c w r z)) ((σ.recs r).stamp == seen) _ _
+        (λ s. local_good r (Asking q (with_read (record { rec = r; seen = seen; row = loaded }) reads))
+        (confirm_inv G L σ w q r seen reads loaded g.inv e (test_ge (length loaded) (length (σ.recs r).cells) t) free (eqb-true (σ.recs r).stamp seen s)))
+        (λ s. lost_good q r (Rest q) (Changed (σ.recs r).holder seen (σ.recs r).stamp) (ap (other w) free, λ i. true≢false (sym (eq-eqb (σ.recs r).stamp seen i) ∙ s))
+        (give_up_load_inv G L σ w q r seen reads loaded g.inv e))))
 
     lock_good : (q : ℕ) (reads : List Read) (answer : Answer) (locked : List Install) (y : Install) (todo : List Install) → σ.workers w ≡ Locking q reads answer locked (y ∷ todo)
-        → (h : Option ℕ) → (get_or c.recs y.rec no_rec).holder ≡ h → Good (core_after_act c w y.rec (lock_of w q reads answer locked y todo (get_or c.recs y.rec no_rec) h))
-    lock_good q reads answer locked y todo e h f =
+        → Good (micro_at G.setting c w (Locking q reads answer locked (y ∷ todo)))
+    lock_good q reads answer locked y todo e =
         let kn : Knows G σ w (Locking q reads answer locked (y ∷ todo)) = rw e at (g.inv.knows w) in
-        elim h as (λ z. (get_or c.recs y.rec no_rec).holder ≡ z → Good (core_after_act c w y.rec (lock_of w q reads answer locked y todo (get_or c.recs y.rec no_rec) z))) [
-          | None ↦ (λ n. sets_good y.rec (record { stamp = (σ.recs y.rec).stamp; holder = Some w; cells = (σ.recs y.rec).cells }) (Locking q reads answer (locked ++ y ∷ []) todo)
-              (g.inside w q reads answer (locked ++ y ∷ todo) kn.ends y.rec (has_middle_at locked y todo)) (lock_inv G L σ w q reads answer locked y todo g.inv e n))
-          | Some v ↦ (λ n. lost_good q y.rec (Refusing q locked) (Locked (Some v) (σ.recs y.rec).stamp)
-              (other_holder y.rec v n (rw e (distinct_middle locked y todo (L.ends_ok w q reads answer (locked ++ y ∷ todo) kn.ends).0)))
-              (lock_refused_inv G L σ w q reads answer locked (y ∷ todo) g.inv e))
-        ] f
+        by_test (λ z. Good (parts c w y.rec z)) (is_some (σ.recs y.rec).holder) _ _
+        (λ h. lost_good q y.rec (Refusing q locked) (Locked (σ.recs y.rec).holder (σ.recs y.rec).stamp)
+        (other_holder y.rec h (rw e (distinct_middle locked y todo (L.ends_ok w q reads answer (locked ++ y ∷ todo) kn.ends).0)))
+        (lock_refused_inv G L σ w q reads answer locked (y ∷ todo) g.inv e))
+        (λ h. sets_good y.rec (record { stamp = (σ.recs y.rec).stamp; holder = Some w; cells = (σ.recs y.rec).cells }) (Locking q reads answer (locked ++ y ∷ []) todo)
+        (g.inside w q reads answer (locked ++ y ∷ todo) kn.ends y.rec (has_middle_at locked y todo)) (lock_inv G L σ w q reads answer locked y todo g.inv e (is_free (σ.recs y.rec).holder h)))
 
     draw_good : (q : ℕ) (reads : List Read) (answer : Answer) (locked : List Install) → σ.workers w ≡ Locking q reads answer locked []
-        → Good (core_after_act c w 0 (record { phase = Validating q c.next [] reads answer locked; rec = get_or c.recs 0 no_rec; effect = Drew }))
+        → Good (parts c w 0 (record { phase = Validating q c.next [] reads answer locked; rec = get_or c.recs 0 no_rec; effect = Drew }))
     draw_good q reads answer locked e =
         let x : Entry = record { worker = w; index = q; reads = reads; answer = answer; writes = locked; status = Drawn } in
         good_of 0 (get_or c.recs 0 no_rec) (Validating q c.next [] reads answer locked) Drew (inr refl)
@@ -141,7 +154,7 @@ module _ (G : Ground) where
         (g.items ∙ sym (items_drawn g.log c.next x g.count G.setting.base refl g.count_is)) g.causes
 
     win_good : (q t : ℕ) (done : List Read) (answer : Answer) (writes : List Install) → σ.workers w ≡ Validating q t done [] answer writes
-        → Good (core_after_act c w 0 (act_result G.setting w c.next (Validating q t done [] answer writes) (get_or c.recs 0 no_rec)))
+        → Good (parts c w 0 (act_result G.setting w c.next (Validating q t done [] answer writes) (get_or c.recs 0 no_rec)))
     win_good q t done answer writes e =
         let kn : Knows G σ w (Validating q t done [] answer writes) = rw e at (g.inv.knows w) in
         let past : (G.setting.base ≤ t) × (t < c.next) = g.inv.past t (rw kn.logged refl) in
@@ -154,7 +167,7 @@ module _ (G : Ground) where
 
     lose_good : (q t : ℕ) (done : List Read) (y : Read) (todo : List Read) (answer : Answer) (writes : List Install) (cause : Cause) → IsTrueCause w cause
         → σ.workers w ≡ Validating q t done (y ∷ todo) answer writes
-        → Good (core_after_act c w y.rec (lost (get_or c.recs y.rec no_rec) (Refusing q writes) w q y.rec cause))
+        → Good (parts c w y.rec (lost (get_or c.recs y.rec no_rec) (Refusing q writes) w q y.rec cause))
     lose_good q t done y todo answer writes cause true_ e =
         let kn : Knows G σ w (Validating q t done (y ∷ todo) answer writes) = rw e at (g.inv.knows w) in
         good_of y.rec (get_or c.recs y.rec no_rec) (Refusing q writes) (Lost (record { worker = w; index = q; rec = y.rec; cause = cause })) (inr refl)
@@ -164,15 +177,13 @@ module _ (G : Ground) where
     pub micro_good : (p : Phase) → σ.workers w ≡ p → Good (micro_at G.setting c w p)
     micro_good (Rest q) e = local_good 0 (Asking q []) (begin_inv G L σ w q g.inv e)
     micro_good (Asking q reads) e = local_good 0 (asked q reads (G.setting.ask w q reads)) (ask_inv G L σ w q reads g.inv e)
-    micro_good (Wanting q reads r) e = first_load_good q reads r e (get_or c.recs r no_rec).holder refl
-    micro_good (Loading q reads r seen loaded) e = by_test (λ z. Good (core_after_act c w r z)) (nat_lt (length loaded) (length (σ.recs r).cells)) _ _
-        (λ t. local_good r (Loading q reads r seen (loaded ++ get_or (σ.recs r).cells (length loaded) 0 ∷ [])) (column_load_inv G L σ w q r seen reads loaded g.inv e (test_lt (length loaded) (length (σ.recs r).cells) t)))
-        (λ t. confirm_good q reads r seen loaded e (test_ge (length loaded) (length (σ.recs r).cells) t) (get_or c.recs r no_rec).holder refl)
-    micro_good (Locking q reads answer locked (y ∷ todo)) e = lock_good q reads answer locked y todo e (get_or c.recs y.rec no_rec).holder refl
+    micro_good (Wanting q reads r) e = first_load_good q reads r e
+    micro_good (Loading q reads r seen loaded) e = load_good q reads r seen loaded e
+    micro_good (Locking q reads answer locked (y ∷ todo)) e = lock_good q reads answer locked y todo e
     micro_good (Locking q reads answer locked []) e = draw_good q reads answer locked e
-    micro_good (Validating q t done (y ∷ todo) answer writes) e = by_test (λ z. Good (core_after_act c w y.rec z)) (other w (σ.recs y.rec).holder) _ _
+    micro_good (Validating q t done (y ∷ todo) answer writes) e = by_test (λ z. Good (parts c w y.rec z)) (other w (σ.recs y.rec).holder) _ _
         (λ f. lose_good q t done y todo answer writes (Locked (σ.recs y.rec).holder (σ.recs y.rec).stamp) f e)
-        (λ f. by_test (λ z. Good (core_after_act c w y.rec z)) ((σ.recs y.rec).stamp == y.seen) _ _
+        (λ f. by_test (λ z. Good (parts c w y.rec z)) ((σ.recs y.rec).stamp == y.seen) _ _
         (λ s. local_good y.rec (Validating q t (done ++ y ∷ []) todo answer writes)
         (validate_inv G L σ w q t done y todo answer writes g.inv e (alone_now G L σ w q t done y todo answer writes g.inv e f (eqb-true (σ.recs y.rec).stamp y.seen s))))
         (λ s. lose_good q t done y todo answer writes (Changed (σ.recs y.rec).holder y.seen (σ.recs y.rec).stamp) (f, λ i. true≢false (sym (eq-eqb (σ.recs y.rec).stamp y.seen i) ∙ s)) e))
@@ -180,7 +191,7 @@ module _ (G : Ground) where
     micro_good (Storing q t j (y ∷ todo)) e =
         let kn : Knows G σ w (Storing q t j (y ∷ todo)) = rw e at (g.inv.knows w) in
         let here : y.rec < length c.recs = held_in c.recs y.rec w (kn.holds y.rec (rw (eq-eqb y.rec y.rec refl) refl)) in
-        by_test (λ z. Good (core_after_act c w y.rec z)) (nat_lt j (length y.row)) _ _
+        by_test (λ z. Good (parts c w y.rec z)) (nat_lt j (length y.row)) _ _
         (λ s. sets_good y.rec (record { stamp = (σ.recs y.rec).stamp; holder = (σ.recs y.rec).holder; cells = set (σ.recs y.rec).cells j (get_or y.row j 0) }) (Storing q t (suc j) (y ∷ todo)) here
         (store_inv G L σ w q t j y todo g.inv e (test_lt j (length y.row) s)))
         (λ s. sets_good y.rec (record { stamp = t; holder = None; cells = (σ.recs y.rec).cells }) (Storing q t 0 todo) here

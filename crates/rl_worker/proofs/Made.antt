@@ -1,12 +1,14 @@
 -- Each worker's stamps rise, over its items and idle draws.
-use Rattle.std.proofs.Common.{◌≡◌, ◌≢◌, ℕ, zero, suc, ◌<◌, ◌≤◌, List, [], ◌∷◌, length, get_or, true, ◌==◌, nat_lt, Option, Some, None, refl, sym, ap, subst, arith, inl, inr, true≢false, length-set}
+use Rattle.std.proofs.Common.{◌≡◌, ◌≢◌, ℕ, zero, suc, ◌<◌, ◌≤◌, List, [], ◌∷◌, length, get_or, true, ◌==◌, nat_lt, Option, Some, None, refl, sym, ap, subst, arith, inl, inr, true≢false, length-set, is_some}
 use Rattle.std.proofs.lemmas.Bool.Decides.{eqb_tells}
 use Rattle.rl_worker.proofs.States.{Answer, Read, Install, Rec, Outcome, Wants, Ends, Phase, Rest, Asking, Wanting, Loading, Locking, Validating, Storing, Refusing, Setting, asked, other, upd}
-use Rattle.rl_worker.specs.Acts.{ActResult, target, first_load_of, confirm_of, lock_of, act_result, Core, no_rec, next_after, made_after, core_after_act, phase_of, micro_at, opening_core, idle, resting, micro, passing, settle, begin, step, step_on, is_done, may, Turn, Step, Idle, turn, after_turns}
+use Rattle.rl_worker.specs.Acts.{ActResult, target, act_result, Core, no_rec, phase_of, opening_core, idle, resting, micro, passing, settle, begin, step, is_done, may, Turn, Step, Idle, turn, after_turns}
+use Rattle.rl_worker.specs.Attempts.{next_after}
+use Rattle.rl_worker.proofs.Parts.{micro_parts, made_after, parts, micro_at, step_on}
 use Rattle.rl_worker.specs.Laws.{stamps_by, AllUnder, IsFalling, DrawnAbove, IsBelowNext}
 use Rattle.rl_worker.proofs.OwnLaw.{AllRest}
 use Rattle.rl_worker.proofs.Whole.{there}
-use Rattle.rl_worker.proofs.Basics.{by_upd, by_test}
+use Rattle.rl_worker.proofs.Basics.{by_upd, by_test, rest_at}
 use Rattle.rl_worker.proofs.Lift.{set_reads}
 
 under_up : (t u : ℕ) (xs : List ℕ) → t ≤ u → AllUnder t xs → AllUnder u xs
@@ -36,11 +38,6 @@ above_rest (Refusing q todo) xs n h = absurd (true≢false (sym h))
 stamps_own : (v w t : ℕ) (xs : List (ℕ × ℕ)) → v ≡ w → stamps_by v ((w, t) ∷ xs) ≡ t ∷ stamps_by w xs
 stamps_own v w t xs e = elim (eqb_tells w v) [ inl i ↦ rw i.0 (ap (λ z. t ∷ stamps_by z xs) e) | inr n ↦ absurd (n.1 (sym e)) ]
 
-rest_of : (ps : List Phase) (w : ℕ) → AllRest ps → resting (get_or ps w (Rest 0)) ≡ true
-rest_of [] w h = refl
-rest_of (p ∷ ps) zero h = h.0
-rest_of (p ∷ ps) (suc w) h = rest_of ps w h.1
-
 stamps_other : (v w t : ℕ) (xs : List (ℕ × ℕ)) → v ≢ w → stamps_by v ((w, t) ∷ xs) ≡ stamps_by v xs
 stamps_other v w t xs n = elim (eqb_tells w v) [ inl i ↦ absurd (n (sym i.1)) | inr m ↦ rw m.0 refl ]
 
@@ -50,12 +47,12 @@ pub record MadeOk (c : Core) : Type 0 where
   pub drawn : (w : ℕ) → DrawnAbove (phase_of c w) (stamps_by w c.made) c.next
 
 module _ (S : Setting) (c : Core) (g : MadeOk c) (w : ℕ) (hw : w < length c.workers) where
-  phase_after : (k : ℕ) (m : ActResult) (v : ℕ) → phase_of (core_after_act c w k m) v ≡ upd (λ u. get_or c.workers u (Rest 0)) w m.phase v
+  phase_after : (k : ℕ) (m : ActResult) (v : ℕ) → phase_of (parts c w k m) v ≡ upd (λ u. get_or c.workers u (Rest 0)) w m.phase v
   phase_after k m v = ap (λ f. f v) (set_reads c.workers w m.phase (Rest 0) hw)
 
   -- an act that makes and draws nothing
   plain : (k : ℕ) (p : Phase) (m : ActResult) → phase_of c w ≡ p → made_after c.made m.effect ≡ c.made → next_after c.next m.effect ≡ c.next
-      → (DrawnAbove p (stamps_by w c.made) c.next → DrawnAbove m.phase (stamps_by w c.made) c.next) → MadeOk (core_after_act c w k m)
+      → (DrawnAbove p (stamps_by w c.made) c.next → DrawnAbove m.phase (stamps_by w c.made) c.next) → MadeOk (parts c w k m)
   plain k p m e d n late = record {
     falling = λ v. rw d (g.falling v);
     below = λ v. rw (d, n) (g.below v);
@@ -64,7 +61,7 @@ module _ (S : Setting) (c : Core) (g : MadeOk c) (w : ℕ) (hw : w < length c.wo
   }
 
   drew : (q : ℕ) (reads : List Read) (answer : Answer) (locked : List Install) (x : Rec) → phase_of c w ≡ Locking q reads answer locked []
-      → MadeOk (core_after_act c w 0 (act_result S w c.next (Locking q reads answer locked []) x))
+      → MadeOk (parts c w 0 (act_result S w c.next (Locking q reads answer locked []) x))
   drew q reads answer locked x e =
       let m = act_result S w c.next (Locking q reads answer locked []) x in
       record {
@@ -75,7 +72,7 @@ module _ (S : Setting) (c : Core) (g : MadeOk c) (w : ℕ) (hw : w < length c.wo
       }
 
   won : (q t : ℕ) (done : List Read) (answer : Answer) (writes : List Install) (x : Rec) → phase_of c w ≡ Validating q t done [] answer writes
-      → MadeOk (core_after_act c w 0 (act_result S w c.next (Validating q t done [] answer writes) x))
+      → MadeOk (parts c w 0 (act_result S w c.next (Validating q t done [] answer writes) x))
   won q t done answer writes x e =
       let m = act_result S w c.next (Validating q t done [] answer writes) x in
       let mine : DrawnAbove (Validating q t done [] answer writes) (stamps_by w c.made) c.next = rw e at (g.drawn w) in
@@ -102,27 +99,18 @@ module _ (S : Setting) (c : Core) (g : MadeOk c) (w : ℕ) (hw : w < length c.wo
   asked_above q reads (Wants r) = tt
   asked_above q reads (Ends answer writes) = tt
 
-  first_load_plain : (q : ℕ) (reads : List Read) (r : ℕ) (x : Rec) (h : Option ℕ) → IsPlain (Wanting q reads r) (first_load_of w q reads r x h)
-  first_load_plain q reads r x None = (refl, refl, λ h. tt)
-  first_load_plain q reads r x (Some v) = (refl, refl, λ h. tt)
-
-  confirm_plain : (q : ℕ) (reads : List Read) (r seen : ℕ) (loaded : List ℕ) (x : Rec) (h : Option ℕ) → IsPlain (Loading q reads r seen loaded) (confirm_of w q reads r seen loaded x h)
-  confirm_plain q reads r seen loaded x None = by_test (λ z. IsPlain (Loading q reads r seen loaded) z) (x.stamp == seen) _ _ (λ t. (refl, refl, λ h. tt)) (λ t. (refl, refl, λ h. tt))
-  confirm_plain q reads r seen loaded x (Some v) = (refl, refl, λ h. tt)
-
-  lock_plain : (q : ℕ) (reads : List Read) (answer : Answer) (locked : List Install) (y : Install) (todo : List Install) (x : Rec) (h : Option ℕ)
-      → IsPlain (Locking q reads answer locked (y ∷ todo)) (lock_of w q reads answer locked y todo x h)
-  lock_plain q reads answer locked y todo x None = (refl, refl, λ h. tt)
-  lock_plain q reads answer locked y todo x (Some v) = (refl, refl, λ h. tt)
-
   pub micro_made : (p : Phase) → phase_of c w ≡ p → MadeOk (micro_at S c w p)
   micro_made (Rest q) e = plain_at (Rest q) e (refl, refl, λ h. tt)
   micro_made (Asking q reads) e = plain_at (Asking q reads) e (refl, refl, λ h. asked_above q reads (S.ask w q reads))
-  micro_made (Wanting q reads r) e = plain_at (Wanting q reads r) e (first_load_plain q reads r (get_or c.recs r no_rec) (get_or c.recs r no_rec).holder)
+  micro_made (Wanting q reads r) e = plain_at (Wanting q reads r) e
+      (by_test (λ z. IsPlain (Wanting q reads r) z) (is_some (get_or c.recs r no_rec).holder) _ _ (λ t. (refl, refl, λ h. tt)) (λ t. (refl, refl, λ h. tt)))
   micro_made (Loading q reads r seen loaded) e = plain_at (Loading q reads r seen loaded) e
       (by_test (λ z. IsPlain (Loading q reads r seen loaded) z) (nat_lt (length loaded) (length (get_or c.recs r no_rec).cells)) _ _
-      (λ t. (refl, refl, λ h. tt)) (λ t. confirm_plain q reads r seen loaded (get_or c.recs r no_rec) (get_or c.recs r no_rec).holder))
-  micro_made (Locking q reads answer locked (y ∷ todo)) e = plain_at (Locking q reads answer locked (y ∷ todo)) e (lock_plain q reads answer locked y todo (get_or c.recs y.rec no_rec) (get_or c.recs y.rec no_rec).holder)
+      (λ t. (refl, refl, λ h. tt))
+      (λ t. by_test (λ z. IsPlain (Loading q reads r seen loaded) z) (is_some (get_or c.recs r no_rec).holder) _ _ (λ f. (refl, refl, λ h. tt))
+      (λ f. by_test (λ z. IsPlain (Loading q reads r seen loaded) z) ((get_or c.recs r no_rec).stamp == seen) _ _ (λ s. (refl, refl, λ h. tt)) (λ s. (refl, refl, λ h. tt)))))
+  micro_made (Locking q reads answer locked (y ∷ todo)) e = plain_at (Locking q reads answer locked (y ∷ todo)) e
+      (by_test (λ z. IsPlain (Locking q reads answer locked (y ∷ todo)) z) (is_some (get_or c.recs y.rec no_rec).holder) _ _ (λ t. (refl, refl, λ h. tt)) (λ t. (refl, refl, λ h. tt)))
   micro_made (Locking q reads answer locked []) e = drew q reads answer locked (get_or c.recs 0 no_rec) e
   micro_made (Validating q t done (y ∷ todo) answer writes) e = plain_at (Validating q t done (y ∷ todo) answer writes) e
       (by_test (λ z. IsPlain (Validating q t done (y ∷ todo) answer writes) z) (other w (get_or c.recs y.rec no_rec).holder) _ _ (λ f. (refl, refl, λ h. tt))
@@ -140,7 +128,7 @@ module _ (S : Setting) (c : Core) (g : MadeOk c) (w : ℕ) (hw : w < length c.wo
 
 module _ (S : Setting) where
   micro_ok : (c : Core) (w : ℕ) → w < length c.workers → MadeOk c → MadeOk (micro S c w) × (w < length (micro S c w).workers)
-  micro_ok c w h g = (micro_made S c g w h (phase_of c w) refl, micro_there S c g w h)
+  micro_ok c w h g = subst (λ z. MadeOk z × (w < length z.workers)) (sym (micro_parts S c w)) (micro_made S c g w h (phase_of c w) refl, micro_there S c g w h)
 
   settle_ok : (c : Core) (w : ℕ) → w < length c.workers → MadeOk c → MadeOk (settle S c w) × (w < length (settle S c w).workers)
   settle_ok c w h g = by_test (λ z. MadeOk z × (w < length z.workers)) (passing (phase_of c w)) (micro S c w) c (λ t. micro_ok c w h g) (λ t. (g, h))
@@ -186,10 +174,10 @@ module _ (S : Setting) where
   made_ok recs workers turns h = run_ok turns (opening_core S recs workers) (record {
     falling = λ v. tt;
     below = λ v. tt;
-    drawn = λ v. above_rest (get_or workers v (Rest 0)) [] S.base (rest_of workers v h);
+    drawn = λ v. above_rest (get_or workers v (Rest 0)) [] S.base (rest_at workers v h);
   })
 
-  -- the stamps of each worker rise from the opening_core on
+  -- the stamps of each worker rise from the opening on
   pub stamps_rise : (recs : List Rec) (workers : List Phase) (turns : List Turn) → AllRest workers → (w : ℕ) → IsFalling (stamps_by w (after_turns S (opening_core S recs workers) turns).made)
   stamps_rise recs workers turns h w = (made_ok recs workers turns h).falling w
 

@@ -1,9 +1,11 @@
 -- Each worker's items are its requests, in order and none twice.
-use Rattle.std.proofs.Common.{◌≡◌, ◌≢◌, ℕ, zero, suc, ◌+◌, ◌<◌, ◌≤◌, List, [], ◌∷◌, ◌++◌, length, get_or, ◌==◌, nat_lt, if◌then◌else◌, Option, Some, None, refl, sym, ap, ◌∙◌, arith, inl, inr, length-set}
+use Rattle.std.proofs.Common.{◌≡◌, ◌≢◌, ℕ, zero, suc, ◌+◌, ◌<◌, ◌≤◌, List, [], ◌∷◌, ◌++◌, length, get_or, ◌==◌, nat_lt, if◌then◌else◌, Option, Some, None, refl, sym, ap, ◌∙◌, arith, inl, inr, length-set, is_some, subst}
 use Rattle.std.proofs.lemmas.Bool.Decides.{eqb_tells}
 use Rattle.rl_worker.proofs.States.{Answer, Read, Install, Rec, Outcome, Wants, Ends, Phase, Rest, Asking, Wanting, Loading, Locking, Validating, Storing, Refusing, Setting, asked, other, upd}
 use Rattle.rl_worker.specs.Items.{CoreItem, insert_by_stamp}
-use Rattle.rl_worker.specs.Acts.{ActResult, target, first_load_of, confirm_of, lock_of, act_result, Core, no_rec, next_after, decided_after, core_after_act, phase_of, micro_at, opening_core, idle, resting}
+use Rattle.rl_worker.specs.Acts.{ActResult, target, act_result, Core, no_rec, phase_of, opening_core, idle, resting}
+use Rattle.rl_worker.specs.Attempts.{next_after}
+use Rattle.rl_worker.proofs.Parts.{decided_after, parts, micro_at}
 use Rattle.rl_worker.proofs.OwnLaw.{Rising, indexes, upto, InLists}
 use Rattle.rl_worker.proofs.Basics.{by_upd, upd_same, upd_other, by_test, test_lt}
 use Rattle.rl_worker.proofs.Lift.{set_reads}
@@ -93,12 +95,12 @@ module _ (first : ℕ → ℕ) where
     pub below : AllBelow c.next c.decided
 
   module _ (S : Setting) (c : Core) (b : ℕ) (rise : Rising b c.decided) (g : Numbered c) (w : ℕ) (hw : w < length c.workers) where
-    phase_after : (k : ℕ) (m : ActResult) (v : ℕ) → phase_of (core_after_act c w k m) v ≡ upd (λ u. get_or c.workers u (Rest 0)) w m.phase v
+    phase_after : (k : ℕ) (m : ActResult) (v : ℕ) → phase_of (parts c w k m) v ≡ upd (λ u. get_or c.workers u (Rest 0)) w m.phase v
     phase_after k m v = ap (λ f. f v) (set_reads c.workers w m.phase (Rest 0) hw)
 
     -- an act that decides and draws nothing
     plain : (k : ℕ) (p : Phase) (m : ActResult) → phase_of c w ≡ p → decided_after c.decided m.effect ≡ c.decided → next_after c.next m.effect ≡ c.next
-        → number m.phase ≡ number p → (Latest p w c.decided c.next → Latest m.phase w c.decided c.next) → Numbered (core_after_act c w k m)
+        → number m.phase ≡ number p → (Latest p w c.decided c.next → Latest m.phase w c.decided c.next) → Numbered (parts c w k m)
     plain k p m e d n same late = record {
       count = g.count;
       lists = λ v. rw d (g.lists v);
@@ -110,7 +112,7 @@ module _ (first : ℕ → ℕ) where
     }
 
     drew : (q : ℕ) (reads : List Read) (answer : Answer) (locked : List Install) (x : Rec) → phase_of c w ≡ Locking q reads answer locked []
-        → Numbered (core_after_act c w 0 (act_result S w c.next (Locking q reads answer locked []) x))
+        → Numbered (parts c w 0 (act_result S w c.next (Locking q reads answer locked []) x))
     drew q reads answer locked x e =
         let m = act_result S w c.next (Locking q reads answer locked []) x in
         record {
@@ -134,7 +136,7 @@ module _ (first : ℕ → ℕ) where
         latest_up (Refusing q todo) v h = 0
 
     won : (q t : ℕ) (done : List Read) (answer : Answer) (writes : List Install) (x : Rec) → phase_of c w ≡ Validating q t done [] answer writes
-        → Numbered (core_after_act c w 0 (act_result S w c.next (Validating q t done [] answer writes) x))
+        → Numbered (parts c w 0 (act_result S w c.next (Validating q t done [] answer writes) x))
     won q t done answer writes x e =
         let m = act_result S w c.next (Validating q t done [] answer writes) x in
         let y : CoreItem = record { stamp = t; worker = w; index = q; answer = answer; writes = writes } in
@@ -175,27 +177,18 @@ module _ (first : ℕ → ℕ) where
     plain_at : (p : Phase) → phase_of c w ≡ p → IsPlain p (act_result S w c.next p (get_or c.recs (target p) no_rec)) → Numbered (micro_at S c w p)
     plain_at p e h = plain (target p) p (act_result S w c.next p (get_or c.recs (target p) no_rec)) e h.0 h.1 h.2 h.3
 
-    first_load_plain : (q : ℕ) (reads : List Read) (r : ℕ) (x : Rec) (h : Option ℕ) → IsPlain (Wanting q reads r) (first_load_of w q reads r x h)
-    first_load_plain q reads r x None = (refl, refl, refl, λ h. 0)
-    first_load_plain q reads r x (Some v) = (refl, refl, refl, λ h. 0)
-
-    confirm_plain : (q : ℕ) (reads : List Read) (r seen : ℕ) (loaded : List ℕ) (x : Rec) (h : Option ℕ) → IsPlain (Loading q reads r seen loaded) (confirm_of w q reads r seen loaded x h)
-    confirm_plain q reads r seen loaded x None = by_test (λ z. IsPlain (Loading q reads r seen loaded) z) (x.stamp == seen) _ _ (λ t. (refl, refl, refl, λ h. 0)) (λ t. (refl, refl, refl, λ h. 0))
-    confirm_plain q reads r seen loaded x (Some v) = (refl, refl, refl, λ h. 0)
-
-    lock_plain : (q : ℕ) (reads : List Read) (answer : Answer) (locked : List Install) (y : Install) (todo : List Install) (x : Rec) (h : Option ℕ)
-        → IsPlain (Locking q reads answer locked (y ∷ todo)) (lock_of w q reads answer locked y todo x h)
-    lock_plain q reads answer locked y todo x None = (refl, refl, refl, λ h. 0)
-    lock_plain q reads answer locked y todo x (Some v) = (refl, refl, refl, λ h. 0)
-
     pub micro_numbered : (p : Phase) → phase_of c w ≡ p → Numbered (micro_at S c w p)
     micro_numbered (Rest q) e = plain_at (Rest q) e (refl, refl, refl, λ h. 0)
     micro_numbered (Asking q reads) e = plain_at (Asking q reads) e (refl, refl, (asked_number q reads (S.ask w q reads)).0, λ h. (asked_number q reads (S.ask w q reads)).1)
-    micro_numbered (Wanting q reads r) e = plain_at (Wanting q reads r) e (first_load_plain q reads r (get_or c.recs r no_rec) (get_or c.recs r no_rec).holder)
+    micro_numbered (Wanting q reads r) e = plain_at (Wanting q reads r) e
+        (by_test (λ z. IsPlain (Wanting q reads r) z) (is_some (get_or c.recs r no_rec).holder) _ _ (λ t. (refl, refl, refl, λ h. 0)) (λ t. (refl, refl, refl, λ h. 0)))
     micro_numbered (Loading q reads r seen loaded) e = plain_at (Loading q reads r seen loaded) e
         (by_test (λ z. IsPlain (Loading q reads r seen loaded) z) (nat_lt (length loaded) (length (get_or c.recs r no_rec).cells)) _ _
-        (λ t. (refl, refl, refl, λ h. 0)) (λ t. confirm_plain q reads r seen loaded (get_or c.recs r no_rec) (get_or c.recs r no_rec).holder))
-    micro_numbered (Locking q reads answer locked (y ∷ todo)) e = plain_at (Locking q reads answer locked (y ∷ todo)) e (lock_plain q reads answer locked y todo (get_or c.recs y.rec no_rec) (get_or c.recs y.rec no_rec).holder)
+        (λ t. (refl, refl, refl, λ h. 0))
+        (λ t. by_test (λ z. IsPlain (Loading q reads r seen loaded) z) (is_some (get_or c.recs r no_rec).holder) _ _ (λ f. (refl, refl, refl, λ h. 0))
+        (λ f. by_test (λ z. IsPlain (Loading q reads r seen loaded) z) ((get_or c.recs r no_rec).stamp == seen) _ _ (λ s. (refl, refl, refl, λ h. 0)) (λ s. (refl, refl, refl, λ h. 0)))))
+    micro_numbered (Locking q reads answer locked (y ∷ todo)) e = plain_at (Locking q reads answer locked (y ∷ todo)) e
+        (by_test (λ z. IsPlain (Locking q reads answer locked (y ∷ todo)) z) (is_some (get_or c.recs y.rec no_rec).holder) _ _ (λ t. (refl, refl, refl, λ h. 0)) (λ t. (refl, refl, refl, λ h. 0)))
     micro_numbered (Locking q reads answer locked []) e = drew q reads answer locked (get_or c.recs 0 no_rec) e
     micro_numbered (Validating q t done (y ∷ todo) answer writes) e = plain_at (Validating q t done (y ∷ todo) answer writes) e
         (by_test (λ z. IsPlain (Validating q t done (y ∷ todo) answer writes) z) (other w (get_or c.recs y.rec no_rec).holder) _ _ (λ f. (refl, refl, refl, λ h. 0))
@@ -229,7 +222,7 @@ module _ (first : ℕ → ℕ) where
       })
       (λ t. g)
 
-  -- at the opening_core each worker rests before its first request
+  -- at the opening each worker rests before its first request
   pub opening_numbered : (S : Setting) (recs : List Rec) (workers : List Phase) → ((w : ℕ) → w < length workers → get_or workers w (Rest 0) ≡ Rest (first w))
       → ((w : ℕ) → Latest (get_or workers w (Rest 0)) w [] S.base) → Numbered (opening_core S recs workers)
   opening_numbered S recs workers h l = record {

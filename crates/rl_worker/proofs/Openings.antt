@@ -77,10 +77,3 @@ fits_more tables r xs x n old new i l = elim (cases_lt i r) [
     get_or_append_seam : (ys : List Record) (y : Record) → found (ys ++ y ∷ []) (length ys) ≡ y
     get_or_append_seam [] y = refl
     get_or_append_seam (z ∷ ys) y = get_or_append_seam ys y
-
--- no rows fit any tables
-pub no_rows_fit : (tables : List Table) → RowsFit tables finite.empty
-no_rows_fit tables t k row e = none (finite.get-empty place_cmp (t, k)) e
-  where
-    none : finite.get (finite.empty {K = ℕ × ℕ} {X = List ℕ} {R = place_cmp}) (t, k) ≡ None → finite.get (finite.empty {K = ℕ × ℕ} {X = List ℕ} {R = place_cmp}) (t, k) ≡ Some row → (t < length tables) × (k < size_of tables t) × (length row ≡ columns_of tables t)
-    none n s = absurd (cc)

@@ -10,9 +10,6 @@ lt_true a b h = grind (arith, nat_tests)
 lt_false : (a b : ℕ) → b ≤ a → nat_lt a b ≡ false
 lt_false a b h = grind (arith, nat_tests)
 
-true_lt : (a b : ℕ) → nat_lt a b ≡ true → a < b
-true_lt a b h = grind (arith, nat_tests)
-
 false_lt : (a b : ℕ) → nat_lt a b ≡ false → b ≤ a
 false_lt a b h = grind (arith, nat_tests)
 

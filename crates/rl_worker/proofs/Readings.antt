@@ -1,5 +1,5 @@
 -- A read that counts is known to the evaluation.
-use Rattle.std.proofs.Common.{◌≡◌, ℕ, zero, suc, ◌≤◌, List, [], ◌∷◌, length, nat_lt, Bool, true, false, not, is_some, if◌then◌else◌, ◌==◌, Option, Some, None, refl, sym, ap, ◌∙◌, subst, arith, cond, set, All}
+use Rattle.std.proofs.Common.{◌≡◌, ℕ, zero, suc, ◌≤◌, List, [], ◌∷◌, length, nat_lt, Bool, true, false, not, is_some, if◌then◌else◌, ◌==◌, Option, Some, None, refl, sym, ap, ◌∙◌, subst, arith, cond, set, All, ◌+◌, ◌*◌}
 use mathlib.Core.Bool.{false≢true}
 use Rattle.std.proofs.lemmas.Bool.Decides.{nat_tests}
 use Rattle.std.specs.Ordering.{eq_by_cmp, is_eq}
@@ -7,6 +7,7 @@ use Rattle.std.specs.declared.cmp.Ordering.{Ordering}
 use Rattle.std.specs.declared.cmp.Ordering.TheVariants.{Less, Equal, Greater}
 use Rattle.std.specs.FinMap as finite
 use Rattle.rl_base.specs.declared.refusal.Refusal.{Refusal}
+use Rattle.rl_base.specs.declared.refusal.Refusal.TheVariants as refusals
 use Rattle.rl_value.specs.Rows.{place_cmp}
 use Rattle.rl_value.specs.Tables.{Table}
 use Rattle.rl_tables.specs.Numbers.{sizes_of, place_of}
@@ -17,7 +18,7 @@ use Rattle.rl_worker.specs.declared.act.Act.TheVariants as act
 use Rattle.rl_worker.specs.declared.reading.Reading.{Reading}
 use Rattle.rl_worker.specs.declared.words.Words.{Words}
 use Rattle.rl_worker.specs.Phases.{Read, Rec, Rest, Asking, Loading, Setting, with_read}
-use Rattle.rl_worker.specs.Acts.{quiet, lost, Changed, confirm_of}
+use Rattle.rl_worker.specs.Acts.{quiet, lost, Changed}
 use Rattle.rl_worker.specs.Opening.{overlay_of}
 use Rattle.rl_value.specs.Cells.{row_of}
 use Rattle.rl_worker.specs.Told.{found, word}
@@ -32,10 +33,6 @@ equal Greater e = absurd (false≢true e)
 
 at_one : (p q : ℕ × ℕ) → eq_by_cmp place_cmp p q ≡ true → p ≡ q
 at_one p q e = same_place p q (equal (place_cmp p q) e)
-
-new_none : (o : Option (Option (List ℕ))) → not (is_some o) ≡ true → o ≡ None
-new_none None h = refl
-new_none (Some r) h = absurd (false≢true h)
 
 module _ (m : Overlay) (p q : ℕ × ℕ) (r s : Option (List ℕ)) where
   -- a place that is new after an insert is another one, and was new before
@@ -95,28 +92,42 @@ no_conflict true b a c e = absurd (cc)
 no_conflict false true a c e = (refl, refl)
 no_conflict false false a c e = absurd (cc)
 
-none_held : (o : Option ℕ) → is_some o ≡ false → o ≡ None
-none_held None e = refl
-none_held (Some v) e = absurd (false≢true (sym e))
-
-confirm_rec : (w q : ℕ) (reads : List Read) (r seen : ℕ) (loaded : List ℕ) (x : Rec) (o : Option ℕ) → (confirm_of w q reads r seen loaded x o).rec ≡ x
-confirm_rec w q reads r seen loaded x None = go (x.stamp == seen)
-  where
-    go : (b : Bool) → (if b then quiet x (Asking q (with_read (record { rec = r; seen = seen; row = loaded }) reads)) else lost x (Rest q) w q r (Changed None seen x.stamp)).rec ≡ x
-    go true = refl
-    go false = refl
-confirm_rec w q reads r seen loaded x (Some v) = refl
-
 pub confirms : (s : Setting) (w e q : ℕ) (r : Reading) (words : Words) (x : Rec) (reads' : List Read) → r.is_open ≡ true → found words.records.items r.next.rec ≡ x → length x.cells ≤ length r.next.row
     → is_some x.holder ≡ false → (x.stamp == r.next.seen) ≡ true → reads' ≡ with_read r.next r.reads.0
     → IsAct s w e (reading_phase q r) (Asking q reads') words words (record { act = act.Confirm r.next.rec (word (found words.records.items r.next.rec)); refused = None; ended = None })
 confirms s w e q r words x reads' op fx long free same is =
-    let none : x.holder ≡ None = none_held x.holder free in
     let b : nat_lt (length r.next.row) (length x.cells) ≡ false = grind (arith, nat_tests) in
     act_at s w e (reading_phase q r) (Loading q r.reads.0 r.next.rec r.next.seen r.next.row) (Asking q reads') words words x _ (rw op refl) fx
-    (rw (b, none, same) (ap (Asking q) is))
-    (rw b (set_found words.records.items r.next.rec x fx ∙ ap (set words.records.items r.next.rec) (sym (confirm_rec w q r.reads.0 r.next.rec r.next.seen r.next.row x x.holder))))
-    (rw (b, none, same) refl)
-    (rw (b, none, same) refl)
+    (rw (b, free, same) (ap (Asking q) is))
+    (rw (b, free, same) (set_found words.records.items r.next.rec x fx))
+    (rw (b, free, same) refl)
+    (rw (b, free, same) refl)
     (rw b (ap (λ (y : Rec). act.Confirm r.next.rec (word y)) fx))
     refl
+
+-- what stands against a read refuses its attempt
+pub refuses : (s : Setting) (w e q : ℕ) (r : Reading) (words : Words) (x : Rec) (f : Refusal) → r.is_open ≡ true → found words.records.items r.next.rec ≡ x → length x.cells ≤ length r.next.row
+    → (if is_some x.holder then Some (refusals.Locked r.next.rec (2 * x.stamp + 1)) else if x.stamp == r.next.seen then None else Some (refusals.Changed r.next.rec (2 * r.next.seen) (2 * x.stamp))) ≡ Some f
+    → IsAct s w e (reading_phase q r) (Rest q) words words (record { act = act.Confirm r.next.rec (word (found words.records.items r.next.rec)); refused = Some f; ended = None })
+refuses s w e q r words x f op fx long said = go (is_some x.holder) (x.stamp == r.next.seen) refl refl said
+  where
+    b : nat_lt (length r.next.row) (length x.cells) ≡ false
+    b = grind (arith, nat_tests)
+
+    go : (h c : Bool) → is_some x.holder ≡ h → (x.stamp == r.next.seen) ≡ c → (if h then Some (refusals.Locked r.next.rec (2 * x.stamp + 1)) else if c then None else Some (refusals.Changed r.next.rec (2 * r.next.seen) (2 * x.stamp))) ≡ Some f
+        → IsAct s w e (reading_phase q r) (Rest q) words words (record { act = act.Confirm r.next.rec (word (found words.records.items r.next.rec)); refused = Some f; ended = None })
+    go true c eh ec k = act_at s w e (reading_phase q r) (Loading q r.reads.0 r.next.rec r.next.seen r.next.row) (Rest q) words words x _ (rw op refl) fx
+        (rw (b, eh) refl)
+        (rw (b, eh) (set_found words.records.items r.next.rec x fx))
+        (rw (b, eh) refl)
+        (rw (b, eh) (sym k))
+        (rw b (ap (λ (y : Rec). act.Confirm r.next.rec (word y)) fx))
+        refl
+    go false true eh ec k = absurd (cc)
+    go false false eh ec k = act_at s w e (reading_phase q r) (Loading q r.reads.0 r.next.rec r.next.seen r.next.row) (Rest q) words words x _ (rw op refl) fx
+        (rw (b, eh, ec) refl)
+        (rw (b, eh, ec) (set_found words.records.items r.next.rec x fx))
+        (rw (b, eh, ec) refl)
+        (rw (b, eh, ec) (sym k))
+        (rw b (ap (λ (y : Rec). act.Confirm r.next.rec (word y)) fx))
+        refl

@@ -94,7 +94,7 @@ items_beyond log t e zero b h = refl
 items_beyond log t e (suc k) b h =
     let n : b ≢ t = omega arith in rw (upd_other log t e b n, items_beyond log t e k (suc b) (omega arith)) refl
 
--- a decision puts one item in its insert_by_stamp
+-- a decision puts one item in its place
 pub items_decided : (log : ℕ → Entry) (t k b : ℕ) → decided (log t).status ≡ false → b ≤ t → t < b + k
     → items_from (upd log t (record (log t) { status = Decided })) b k ≡ insert_by_stamp (item t (log t)) (items_from log b k)
 items_decided log t zero b d lo hi = absurd (omega arith)

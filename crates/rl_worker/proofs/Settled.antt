@@ -1,10 +1,12 @@
 -- Once every stamp up to t is decided or refused, no item with a stamp up to t comes later.
-use Rattle.std.proofs.Common.{◌≡◌, ℕ, ◌<◌, ◌≤◌, List, [], ◌∷◌, length, get_or, true, false, ◌==◌, ◌&&◌, nat_lt, nat_le, if◌then◌else◌, Option, Some, None, refl, sym, ap, ◌∙◌, subst, arith, length-set}
+use Rattle.std.proofs.Common.{◌≡◌, ℕ, ◌<◌, ◌≤◌, List, [], ◌∷◌, length, get_or, true, false, ◌==◌, ◌&&◌, nat_lt, nat_le, if◌then◌else◌, Option, Some, None, refl, sym, ap, ◌∙◌, subst, arith, length-set, is_some}
 use Rattle.std.proofs.lemmas.Bool.Decides.{nat_tests}
 use Rattle.rl_worker.proofs.States.{Answer, Read, Install, Rec, Outcome, Wants, Ends, Phase, Rest, Asking, Wanting, Loading, Locking, Validating, Storing, Refusing, Setting, asked, other}
 use Rattle.rl_worker.specs.Items.{CoreItem, insert_by_stamp}
 use Rattle.rl_worker.specs.Laws.{early, Above, IsSettled}
-use Rattle.rl_worker.specs.Acts.{ActResult, target, first_load_of, confirm_of, lock_of, act_result, Core, no_rec, next_after, decided_after, phase_of, micro, passing, resting, settle, begin, step, step_on, is_done, may, idle, Turn, Step, Idle, turn, after_turns}
+use Rattle.rl_worker.specs.Acts.{ActResult, target, act_result, Core, no_rec, phase_of, micro, passing, resting, settle, begin, step, is_done, may, idle, Turn, Step, Idle, turn, after_turns}
+use Rattle.rl_worker.specs.Attempts.{next_after}
+use Rattle.rl_worker.proofs.Parts.{micro_parts, decided_after, step_on}
 use Rattle.rl_worker.proofs.Basics.{by_upd, by_test, test_lt}
 use Rattle.rl_worker.proofs.Lift.{set_reads}
 use Rattle.rl_worker.proofs.Whole.{there}
@@ -26,19 +28,6 @@ module _ (S : Setting) (t : ℕ) where
     abbrev Later : Phase → ActResult → Type 0
     Later p m = (early t (decided_after c.decided m.effect) ≡ early t c.decided) × (c.next ≤ next_after c.next m.effect) × (Above t p → Above t m.phase)
 
-    first_load_later : (q : ℕ) (reads : List Read) (r : ℕ) (x : Rec) (h : Option ℕ) → Later (Wanting q reads r) (first_load_of w q reads r x h)
-    first_load_later q reads r x None = (refl, omega arith, λ h. tt)
-    first_load_later q reads r x (Some v) = (refl, omega arith, λ h. tt)
-
-    confirm_later : (q : ℕ) (reads : List Read) (r seen : ℕ) (loaded : List ℕ) (x : Rec) (h : Option ℕ) → Later (Loading q reads r seen loaded) (confirm_of w q reads r seen loaded x h)
-    confirm_later q reads r seen loaded x None = by_test (λ z. Later (Loading q reads r seen loaded) z) (x.stamp == seen) _ _ (λ u. (refl, omega arith, λ h. tt)) (λ u. (refl, omega arith, λ h. tt))
-    confirm_later q reads r seen loaded x (Some v) = (refl, omega arith, λ h. tt)
-
-    lock_later : (q : ℕ) (reads : List Read) (answer : Answer) (locked : List Install) (y : Install) (todo : List Install) (x : Rec) (h : Option ℕ)
-        → Later (Locking q reads answer locked (y ∷ todo)) (lock_of w q reads answer locked y todo x h)
-    lock_later q reads answer locked y todo x None = (refl, omega arith, λ h. tt)
-    lock_later q reads answer locked y todo x (Some v) = (refl, omega arith, λ h. tt)
-
     asked_later : (q : ℕ) (reads : List Read) (o : Outcome) → Above t (asked q reads o)
     asked_later q reads (Wants r) = tt
     asked_later q reads (Ends answer writes) = tt
@@ -46,10 +35,12 @@ module _ (S : Setting) (t : ℕ) where
     later : (p : Phase) → Above t p → (x : Rec) → Later p (act_result S w c.next p x)
     later (Rest q) a x = (refl, omega arith, λ h. tt)
     later (Asking q reads) a x = (refl, omega arith, λ h. asked_later q reads (S.ask w q reads))
-    later (Wanting q reads r) a x = first_load_later q reads r x x.holder
+    later (Wanting q reads r) a x = by_test (λ z. Later (Wanting q reads r) z) (is_some x.holder) _ _ (λ u. (refl, omega arith, λ h. tt)) (λ u. (refl, omega arith, λ h. tt))
     later (Loading q reads r seen loaded) a x = by_test (λ z. Later (Loading q reads r seen loaded) z) (nat_lt (length loaded) (length x.cells)) _ _
-        (λ u. (refl, omega arith, λ h. tt)) (λ u. confirm_later q reads r seen loaded x x.holder)
-    later (Locking q reads answer locked (y ∷ todo)) a x = lock_later q reads answer locked y todo x x.holder
+        (λ u. (refl, omega arith, λ h. tt))
+        (λ u. by_test (λ z. Later (Loading q reads r seen loaded) z) (is_some x.holder) _ _ (λ f. (refl, omega arith, λ h. tt))
+        (λ f. by_test (λ z. Later (Loading q reads r seen loaded) z) (x.stamp == seen) _ _ (λ g. (refl, omega arith, λ h. tt)) (λ g. (refl, omega arith, λ h. tt))))
+    later (Locking q reads answer locked (y ∷ todo)) a x = by_test (λ z. Later (Locking q reads answer locked (y ∷ todo)) z) (is_some x.holder) _ _ (λ u. (refl, omega arith, λ h. tt)) (λ u. (refl, omega arith, λ h. tt))
     later (Locking q reads answer locked []) a x = (refl, omega arith, λ h. s.0)
     later (Validating q u done (y ∷ todo) answer writes) a x = by_test (λ z. Later (Validating q u done (y ∷ todo) answer writes) z) (other w x.holder) _ _ (λ f. (refl, omega arith, λ h. tt))
         (λ f. by_test (λ z. Later (Validating q u done (y ∷ todo) answer writes) z) (x.stamp == y.seen) _ _ (λ g. (refl, omega arith, λ h. h)) (λ g. (refl, omega arith, λ h. tt)))
@@ -63,7 +54,8 @@ module _ (S : Setting) (t : ℕ) where
     micro_settled =
         let p = phase_of c w in
         let m = act_result S w c.next p (get_or c.recs (target p) no_rec) in
-        let k = later p (s.1 w) (get_or c.recs (target p) no_rec) in (
+        let k = later p (s.1 w) (get_or c.recs (target p) no_rec) in
+        subst (λ z. IsSettled t z × (early t z.decided ≡ early t c.decided) × (w < length z.workers)) (sym (micro_parts S c w)) (
           (
             omega (arith, s.0, k.1),
             λ v. subst (λ f. Above t (f v)) (sym (set_reads c.workers w m.phase (Rest 0) hw))

@@ -117,9 +117,6 @@ module _ (G : Ground) (L : Lawful G) where
     decide_worker : (σ.log t).worker ≡ w
     decide_worker = ap (λ z. z.worker) decide_logged
 
-    decide_writes : (σ.log t).writes ≡ writes
-    decide_writes = ap (λ z. z.writes) decide_logged
-
     decide_live : live (σ.log t).status ≡ true
     decide_live = ap (λ z. live z.status) decide_logged
 

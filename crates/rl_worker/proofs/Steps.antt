@@ -20,7 +20,8 @@ use Rattle.rl_worker.specs.declared.worker.Stage.{Stage}
 use Rattle.rl_worker.specs.declared.worker.Stage.TheVariants as stage
 use Rattle.rl_worker.specs.declared.worker.Worker.{Worker}
 use Rattle.rl_worker.specs.Phases.{Read, Phase, Rest, Asking, Wanting, Loading, Locking, Validating, Storing, Refusing, Wants, Setting, asked}
-use Rattle.rl_worker.specs.Acts.{Core, resting, target, micro, settle, step, step_on, begin, is_done}
+use Rattle.rl_worker.specs.Acts.{Core, resting, target, micro, settle, step, begin, is_done}
+use Rattle.rl_worker.proofs.Parts.{step_on}
 use Rattle.rl_worker.specs.Opening.{outcome, request, setting_of}
 use Rattle.rl_worker.specs.Workers.{part_phase, reading_phase, stage_phase, phase_of_worker, StageFits, is_resting, decided_at, decided_item, act_of_step, Stands, stamp_next, either, newly_decided, with_item, WorkerFits, Steps}
 use Rattle.rl_worker.specs.Attempts.{IsAttemptOf, IsActed, Loaded, Confirmed, Committed, HasBegun, Began, Went}

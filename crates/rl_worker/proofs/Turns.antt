@@ -410,7 +410,7 @@ turned_committed tables s old new words words' told c w_is i_is e_is =
     either_of false None p h k = k
     either_of false (Some x) p h k = h
 
-    -- where an item is ended_worker nothing is decided any more
+    -- where an item is ended nothing is decided any more
     over_none : (d : Commit) (b : Bool) → is_over d d.part ≡ b → IfSome (if is_over d d.part then decided_at (stage.Committing d) else None) (λ x. decided_item (if is_over d d.part then ended_worker old d else record old { stage = stage.Committing d }) ≡ None)
     over_none d true e = rw e (go (decided_at (stage.Committing d)))
       where

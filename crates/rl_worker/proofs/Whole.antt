@@ -1,10 +1,11 @@
 -- Every schedule.
-use Rattle.std.proofs.Common.{◌≡◌, ℕ, zero, suc, ◌<◌, List, [], ◌∷◌, length, get_or, Bool, true, false, nat_lt, ◌&&◌, None, refl, sym, ap, ◌∙◌, arith, inl, true≢false, length-set}
-use Rattle.rl_worker.proofs.Basics.{by_test, test_lt}
+use Rattle.std.proofs.Common.{◌≡◌, ℕ, zero, suc, ◌<◌, List, [], ◌∷◌, length, get_or, Bool, true, false, nat_lt, ◌&&◌, None, refl, sym, ap, ◌∙◌, arith, inl, true≢false, length-set, subst}
+use Rattle.rl_worker.proofs.Basics.{by_test, test_lt, rest_at}
 use Rattle.rl_worker.proofs.States.{Rec, Void, Entry, Phase, Rest, Asking, Wanting, Loading, Locking, Validating, Storing, Refusing, State, decided, Setting}
 use Rattle.rl_worker.proofs.OwnLaw.{Ground, Serial, Rising, Lawful, InLists}
 use Rattle.rl_worker.specs.Laws.{AllTrue}
-use Rattle.rl_worker.specs.Acts.{Core, no_rec, phase_of, micro, passing, resting, settle, begin, step, step_on, is_done, may, idle, Turn, Step, Idle, turn, after_turns, target, act_result, opening_core}
+use Rattle.rl_worker.specs.Acts.{Core, no_rec, phase_of, micro, passing, resting, settle, begin, step, is_done, may, idle, Turn, Step, Idle, turn, after_turns, target, act_result, opening_core}
+use Rattle.rl_worker.proofs.Parts.{micro_parts, step_on}
 use Rattle.rl_worker.proofs.OwnLaw.{AllFree, AllRest, Opens}
 use Rattle.rl_worker.proofs.Inv.{Inv, Knows}
 use Rattle.rl_worker.proofs.Keeps.{Keeps, knows_kept, final_kept}
@@ -24,16 +25,13 @@ module _ (G : Ground) (L : Lawful G) (first : ℕ → ℕ) where
     pub good : Good G c
     pub numbered : Numbered first c
 
-  micro_length : (c : Core) (w : ℕ) → length (micro G.setting c w).workers ≡ length c.workers
-  micro_length c w = length-set c.workers w (act_result G.setting w c.next (phase_of c w) (get_or c.recs (target (phase_of c w)) no_rec)).phase
-
   pub micro_kept : (c : Core) (w : ℕ) → w < length c.workers → Fine c → Fine (micro G.setting c w) × (w < length (micro G.setting c w).workers)
-  micro_kept c w h g = (
+  micro_kept c w h g = subst (λ z. Fine z × (w < length z.workers)) (sym (micro_parts G.setting c w)) (
     record {
       good = micro_good G L c g.good w h (phase_of c w) refl;
       numbered = micro_numbered first G.setting c G.setting.base (rw g.good.items (items_rise g.good.log g.good.count G.setting.base)) g.numbered w h (phase_of c w) refl;
     },
-    rw micro_length h,
+    rw length-set h,
   )
 
   settle_kept : (c : Core) (w : ℕ) → w < length c.workers → Fine c → Fine (settle G.setting c w) × (w < length (settle G.setting c w).workers)
@@ -111,11 +109,6 @@ module _ (G : Ground) (L : Lawful G) (first : ℕ → ℕ) where
   free_at [] r h = refl
   free_at (x ∷ xs) zero h = h.0
   free_at (x ∷ xs) (suc r) h = free_at xs r h.1
-
-  pub rest_at : (ps : List Phase) (w : ℕ) → AllRest ps → resting (get_or ps w (Rest 0)) ≡ true
-  rest_at [] w h = refl
-  rest_at (p ∷ ps) zero h = h.0
-  rest_at (p ∷ ps) (suc w) h = rest_at ps w h.1
 
   knows_rest : (σ : State) (w : ℕ) (p : Phase) → resting p ≡ true → Knows G σ w p
   knows_rest σ w (Rest q) h = 0

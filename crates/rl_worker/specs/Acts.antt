@@ -1,5 +1,5 @@
 -- The records and the workers of an open leader as lists, and what one step of a worker does to them.
-use Rattle.std.specs.Prelude.{ℕ, suc, List, [], ◌∷◌, ◌++◌, length, get_or, set, Bool, true, false, not, ◌&&◌, ◌==◌, nat_lt, if◌then◌else◌, Option, Some, None}
+use Rattle.std.specs.Prelude.{ℕ, suc, List, [], ◌∷◌, ◌++◌, length, get_or, set, Bool, true, false, not, ◌&&◌, ◌==◌, nat_lt, is_some, if◌then◌else◌, Option, Some, None}
 use Rattle.rl_worker.specs.Phases.{Answer, Read, Install, Rec, Phase, Rest, Asking, Wanting, Loading, Locking, Validating, Storing, Refusing, Setting, with_read, asked, other}
 use Rattle.rl_worker.specs.Items.{CoreItem, insert_by_stamp}
 
@@ -47,35 +47,22 @@ abbrev pub lost : Rec → Phase → (w q r : ℕ) → Cause → ActResult
 lost x p w q r c =
     record { phase = p; rec = x; effect = Lost (record { worker = w; index = q; rec = r; cause = c }) }
 
--- the first load of record r, by its holder
-abbrev pub first_load_of : (w q : ℕ) → List Read → (r : ℕ) → Rec → (holder : Option ℕ) → ActResult
-first_load_of w q reads r x None = quiet x (Loading q reads r x.stamp [])
-first_load_of w q reads r x (Some v) = lost x (Rest q) w q r (Locked (Some v) x.stamp)
-
--- the second look at record r, whose cells are all loaded: the read counts where nobody holds the record and its
--- stamp is as it was seen
-abbrev pub confirm_of : (w q : ℕ) → List Read → (r seen : ℕ) → (loaded : List ℕ) → Rec → (holder : Option ℕ) → ActResult
-confirm_of w q reads r seen loaded x None =
-    if x.stamp == seen then quiet x (Asking q (with_read (record { rec = r; seen = seen; row = loaded }) reads))
-    else lost x (Rest q) w q r (Changed None seen x.stamp)
-confirm_of w q reads r seen loaded x (Some v) = lost x (Rest q) w q r (Locked (Some v) x.stamp)
-
--- the lock of a record that y writes: it is taken where nobody holds it
-abbrev pub lock_of : (w q : ℕ) → List Read → Answer → (locked : List Install) → (y : Install) → (todo : List Install) → Rec → (holder : Option ℕ) → ActResult
-lock_of w q reads answer locked y todo x None =
-    quiet (record { stamp = x.stamp; holder = Some w; cells = x.cells }) (Locking q reads answer (locked ++ y ∷ []) todo)
-lock_of w q reads answer locked y todo x (Some v) = lost x (Refusing q locked) w q y.rec (Locked (Some v) x.stamp)
-
 -- one small act of worker w in a phase, where x is what its record holds and n is the next stamp
 abbrev pub act_result : Setting → (w n : ℕ) → Phase → (x : Rec) → ActResult
 act_result S w n (Rest q) x = quiet x (Asking q [])
 act_result S w n (Asking q reads) x = quiet x (asked q reads (S.ask w q reads))
-act_result S w n (Wanting q reads r) x = first_load_of w q reads r x x.holder
+act_result S w n (Wanting q reads r) x =
+    if is_some x.holder then lost x (Rest q) w q r (Locked x.holder x.stamp)
+    else quiet x (Loading q reads r x.stamp [])
 act_result S w n (Loading q reads r seen loaded) x =
     if nat_lt (length loaded) (length x.cells)
     then quiet x (Loading q reads r seen (loaded ++ get_or x.cells (length loaded) 0 ∷ []))
-    else confirm_of w q reads r seen loaded x x.holder
-act_result S w n (Locking q reads answer locked (y ∷ todo)) x = lock_of w q reads answer locked y todo x x.holder
+    else if is_some x.holder then lost x (Rest q) w q r (Locked x.holder x.stamp)
+    else if x.stamp == seen then quiet x (Asking q (with_read (record { rec = r; seen = seen; row = loaded }) reads))
+    else lost x (Rest q) w q r (Changed x.holder seen x.stamp)
+act_result S w n (Locking q reads answer locked (y ∷ todo)) x =
+    if is_some x.holder then lost x (Refusing q locked) w q y.rec (Locked x.holder x.stamp)
+    else quiet (record x { holder = Some w }) (Locking q reads answer (locked ++ y ∷ []) todo)
 act_result S w n (Locking q reads answer locked []) x =
     record { phase = Validating q n [] reads answer locked; rec = x; effect = Drew }
 act_result S w n (Validating q t done (y ∷ todo) answer writes) x =
@@ -89,11 +76,10 @@ act_result S w n (Validating q t done [] answer writes) x = record {
 }
 act_result S w n (Storing q t j (y ∷ todo)) x =
     if nat_lt j (length y.row)
-    then quiet (record { stamp = x.stamp; holder = x.holder; cells = set x.cells j (get_or y.row j 0) }) (Storing q t (suc j) (y ∷ todo))
-    else quiet (record { stamp = t; holder = None; cells = x.cells }) (Storing q t 0 todo)
+    then quiet (record x { cells = set x.cells j (get_or y.row j 0) }) (Storing q t (suc j) (y ∷ todo))
+    else quiet (record x { stamp = t; holder = None }) (Storing q t 0 todo)
 act_result S w n (Storing q t j []) x = quiet x (Rest (suc q))
-act_result S w n (Refusing q (y ∷ todo)) x =
-    quiet (record { stamp = x.stamp; holder = None; cells = x.cells }) (Refusing q todo)
+act_result S w n (Refusing q (y ∷ todo)) x = quiet (record x { holder = None }) (Refusing q todo)
 act_result S w n (Refusing q []) x = quiet x (Rest q)
 
 -- the records of an open leader, its workers, the next stamp, what is decided by stamp, the refusals and what was
@@ -110,48 +96,27 @@ pub record Core : Type 0 where
 abbrev pub no_rec : Rec
 no_rec = record { stamp = 0; holder = None; cells = [] }
 
--- the next stamp after an effect
-abbrev pub next_after : ℕ → Effect → ℕ
-next_after n Drew = suc n
-next_after n e = n
-
--- the decided items after an effect
-abbrev pub decided_after : List CoreItem → Effect → List CoreItem
-decided_after xs (Won x) = insert_by_stamp x xs
-decided_after xs e = xs
-
--- the refusals after an effect
-abbrev pub refusals_after : List CoreRefusal → Effect → List CoreRefusal
-refusals_after xs (Lost f) = f ∷ xs
-refusals_after xs e = xs
-
--- what was made after an effect
-abbrev pub made_after : List (ℕ × ℕ) → Effect → List (ℕ × ℕ)
-made_after xs (Won x) = (x.worker, x.stamp) ∷ xs
-made_after xs e = xs
+-- the core after an effect
+abbrev pub after_effect : Core → Effect → Core
+after_effect c Quiet = c
+after_effect c Drew = record c { next = suc c.next }
+after_effect c (Won x) = record c { decided = insert_by_stamp x c.decided; made = (x.worker, x.stamp) ∷ c.made }
+after_effect c (Lost f) = record c { refusals = f ∷ c.refusals }
 
 -- the core after worker w made an act on record k
 abbrev pub core_after_act : Core → (w k : ℕ) → ActResult → Core
-core_after_act c w k m = record {
-  recs = set c.recs k m.rec;
-  workers = set c.workers w m.phase;
-  next = next_after c.next m.effect;
-  decided = decided_after c.decided m.effect;
-  refusals = refusals_after c.refusals m.effect;
-  made = made_after c.made m.effect;
-}
+core_after_act c w k m =
+    after_effect (record c { recs = set c.recs k m.rec; workers = set c.workers w m.phase }) m.effect
 
 -- what a worker of the core is about
 abbrev pub phase_of : Core → (w : ℕ) → Phase
 phase_of c w = get_or c.workers w (Rest 0)
 
--- one small act of worker w, which is in phase p
-abbrev pub micro_at : Setting → Core → (w : ℕ) → (p : Phase) → Core
-micro_at S c w p = core_after_act c w (target p) (act_result S w c.next p (get_or c.recs (target p) no_rec))
-
 -- one small act of a worker
 abbrev pub micro : Setting → Core → (w : ℕ) → Core
-micro S c w = micro_at S c w (phase_of c w)
+micro S c w =
+    let p = phase_of c w in
+    core_after_act c w (target p) (act_result S w c.next p (get_or c.recs (target p) no_rec))
 
 -- a phase in which no worker stands between two steps
 abbrev pub passing : Phase → Bool
@@ -174,18 +139,15 @@ settle S c w = if passing (phase_of c w) then micro S c w else c
 abbrev pub begin : Setting → Core → (w : ℕ) → Core
 begin S c w = if resting (phase_of c w) then micro S (micro S c w) w else c
 
--- one step of a worker: it begins a request where it rests, makes one act, and runs on to the next
-abbrev pub step_on : Setting → Core → (w : ℕ) → Core
-step_on S c w = settle S (settle S (micro S (begin S c w) w) w) w
-
 -- at rest with no request left
 abbrev pub is_done : Setting → (w : ℕ) → Phase → Bool
 is_done S w (Rest q) = not (S.there w q)
 is_done S w p = false
 
--- a step at rest with no request left does nothing
+-- one step of a worker: it begins a request where it rests, makes one act, and runs on to the next. At rest with no
+-- request left it does nothing
 abbrev pub step : Setting → Core → (w : ℕ) → Core
-step S c w = if is_done S w (phase_of c w) then c else step_on S c w
+step S c w = if is_done S w (phase_of c w) then c else settle S (settle S (micro S (begin S c w) w) w) w
 
 -- an idle draw at rest
 abbrev pub idle : Core → (w : ℕ) → Core

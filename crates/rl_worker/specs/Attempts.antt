@@ -1,5 +1,5 @@
 -- What one act of an attempt does in the code, and what follows it: of this private contracts alone speak.
-use Rattle.std.specs.Prelude.{◌≡◌, ℕ, ◌+◌, ◌≤◌, List, [], length, set, Bool, true, false, nat_le, ◌==◌, ◌&&◌, if◌then◌else◌, Option, Some, None, Result, Ok, Err, All}
+use Rattle.std.specs.Prelude.{◌≡◌, ℕ, suc, ◌+◌, ◌≤◌, List, [], length, set, Bool, true, false, nat_le, ◌==◌, ◌&&◌, if◌then◌else◌, Option, Some, None, Result, Ok, Err, All}
 use Rattle.rl_base.specs.declared.refusal.Refusal.{Refusal}
 use Rattle.rl_value.specs.Tables.{Table}
 use Rattle.rl_txn.specs.Eval.{IsEval, known, reads_room}
@@ -14,7 +14,7 @@ use Rattle.rl_worker.specs.declared.worker.Stage.{Stage}
 use Rattle.rl_worker.specs.declared.worker.Stage.TheVariants as stage
 use Rattle.rl_worker.specs.declared.worker.Worker.{Worker}
 use Rattle.rl_worker.specs.Phases.{Phase, Rest, Asking, Setting, asked}
-use Rattle.rl_worker.specs.Acts.{Effect, Quiet, Drew, Won, Lost, ActResult, target, act_result, next_after}
+use Rattle.rl_worker.specs.Acts.{Effect, Quiet, Drew, Won, Lost, ActResult, target, act_result}
 use Rattle.rl_worker.specs.Opening.{overlay_of, outcome}
 use Rattle.rl_worker.specs.Told.{found, refused, act_of}
 use Rattle.rl_worker.specs.Workers.{reading_phase, commit_phase, phase_of_worker, ReadFits, CommitFits, IsCommitOf, StageFits, is_resting, is_storing, decided_at, decided_item, stamp_next}
@@ -24,6 +24,11 @@ use Rattle.rl_worker.specs.Workers.{reading_phase, commit_phase, phase_of_worker
 abbrev pub refusal_of : Effect → Option Refusal
 refusal_of (Lost f) = Some (refused f)
 refusal_of e = None
+
+-- the next stamp after an effect
+abbrev pub next_after : ℕ → Effect → ℕ
+next_after n Drew = suc n
+next_after n e = n
 
 -- an act of worker w in a phase, on the record that it looks at
 abbrev pub act_in : Setting → (w epoch : ℕ) → Phase → Words → ActResult
@@ -60,7 +65,8 @@ confirmed_phase q (Err refusal) = Rest q
 -- a load of a reading, which leaves the words as they are
 abbrev pub IsLoad : (old new : Reading) → Words → Moved → Type 0
 IsLoad old new words told =
-    (s : Setting) (w epoch q : ℕ) → IsAct s w epoch (reading_phase q old) (reading_left q new told.refused) words words told
+    (s : Setting) (w epoch q : ℕ)
+    → IsAct s w epoch (reading_phase q old) (reading_left q new told.refused) words words told
 
 -- what the transaction asks for after a read that counts
 abbrev pub ran_on : List Table → List Op → (q : ℕ) → Result Reading Refusal → Phase
@@ -70,7 +76,8 @@ ran_on tables txn q (Err refusal) = Rest q
 -- the code confirmed a read, and ran on where it counts
 pub record Confirms (tables : List Table) (txn : List Op) (old new : Worker) (words : Words) (told : Moved) : Type 0 where
   pub left : Result Reading Refusal
-  pub act : (s : Setting) (w epoch : ℕ) → IsAct s w epoch (phase_of_worker tables old) (confirmed_phase old.index left) words words told
+  pub act : (s : Setting) (w epoch : ℕ)
+      → IsAct s w epoch (phase_of_worker tables old) (confirmed_phase old.index left) words words told
   pub ran : phase_of_worker tables new ≡ ran_on tables txn old.index left
 
 -- in an attempt that reads
@@ -80,14 +87,16 @@ is_reading st = false
 
 -- all cells of the wanted record are loaded
 abbrev pub is_loaded : Stage → Words → Bool
-is_loaded (stage.Reading r) words = r.is_open && nat_le (length (found words.records.items r.next.rec).cells) (length r.next.row)
+is_loaded (stage.Reading r) words =
+    r.is_open && nat_le (length (found words.records.items r.next.rec).cells) (length r.next.row)
 is_loaded st words = false
 
 -- ---- an attempt that commits ----
 -- an act of a commit
 abbrev pub IsCommitAct : List Table → (old new : Commit) → (words words' : Words) → Moved → Type 0
 IsCommitAct tables old new words words' told =
-    (s : Setting) → IsAct s old.item.worker old.item.stamp.epoch (commit_phase tables old) (commit_phase tables new) words words' told
+    (s : Setting)
+    → IsAct s old.item.worker old.item.stamp.epoch (commit_phase tables old) (commit_phase tables new) words words' told
 
 -- the same attempt: its reads, and its item but for the stamp's seq
 pub record IsOfAttempt (old new : Commit) : Type 0 where
@@ -133,7 +142,8 @@ pub record Commits (tables : List Table) (old new : Worker) (words words' : Word
   pub was : Commit
   pub to : Commit
   pub old_is : old.stage ≡ stage.Committing was
-  pub act : (s : Setting) → IsAct s old.number old.epoch (phase_of_worker tables old) (commit_phase tables to) words words' (record told { ended = None })
+  pub act : (s : Setting)
+      → IsAct s old.number old.epoch (phase_of_worker tables old) (commit_phase tables to) words words' (record told { ended = None })
   pub attempt : IsOfAttempt was to
   pub fits : CommitFits tables to
   pub new_is : new ≡ finished old (decided to)
@@ -156,7 +166,8 @@ pub data HasBegun (tables : List Table) (txn : List Op) (old new : Worker) : Typ
 pub data IsActed (tables : List Table) (txn : List Op) (old new : Worker) (words words' : Words) (told : Moved) : Type 0 where
   Loaded : words' ≡ words → is_reading old.stage ≡ true → IsAttemptOf old new
       → StageFits tables txn new new.stage → decided_item new ≡ None
-      → ((s : Setting) (w epoch : ℕ) → IsAct s w epoch (phase_of_worker tables old) (phase_of_worker tables new) words words told)
+      → ((s : Setting) (w epoch : ℕ)
+      → IsAct s w epoch (phase_of_worker tables old) (phase_of_worker tables new) words words told)
       → IsActed tables txn old new words words' told
   Confirmed : words' ≡ words → is_reading old.stage ≡ true → IsAttemptOf old new
       → StageFits tables txn new new.stage → decided_item new ≡ None → Confirms tables txn old new words told

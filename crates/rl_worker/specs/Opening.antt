@@ -3,6 +3,7 @@ use Rattle.std.specs.Prelude.{ℕ, zero, suc, ◌+◌, ◌-◌, ◌*◌, ◌^◌
 use Rattle.std.specs.Option.{option_map_or, option_and_then}
 use Rattle.std.specs.List.{range_with_len}
 use Rattle.std.specs.FinMap as finite
+use Rattle.rl_base.specs.declared.stamp.Stamp.{Stamp}
 use Rattle.rl_value.specs.Cells.{cells_of, row_of}
 use Rattle.rl_value.specs.Fits.{RowsFit}
 use Rattle.rl_value.specs.Rows.{Rows}
@@ -54,7 +55,8 @@ asks tables lists w q reads = option_map_or (λ txn. outcome tables txn reads) (
 abbrev pub opening_rec : List Table → Rows → (stamps : List ℕ) → (r : ℕ) → Rec
 opening_rec tables rows stamps r =
     let place = place_of (sizes_of tables) r in
-    record { stamp = slice_index stamps r; holder = None; cells = cells_of (columns_of tables place.0) (finite.get rows place) }
+    let cells = cells_of (columns_of tables place.0) (finite.get rows place) in
+    record { stamp = slice_index stamps r; holder = None; cells = cells }
 
 -- the records as they open
 abbrev pub opening_recs : List Table → Rows → (stamps : List ℕ) → List Rec
@@ -96,13 +98,9 @@ core_after l turns =
 
 -- an item of the core as the layers above see it
 abbrev pub item_seen : (epoch : ℕ) → CoreItem → Item
-item_seen epoch x = record {
-  stamp = record { epoch = epoch; seq = x.stamp - epoch * 2 ^ 40 };
-  worker = x.worker;
-  index = x.index;
-  reply = x.answer.0;
-  writes = x.answer.1;
-}
+item_seen epoch x =
+    let stamp : Stamp = record { epoch = epoch; seq = x.stamp - epoch * 2 ^ 40 } in
+    record { stamp = stamp; worker = x.worker; index = x.index; reply = x.answer.0; writes = x.answer.1 }
 
 -- items of the core as the layers above see them
 abbrev pub items_seen : (epoch : ℕ) → List CoreItem → List Item

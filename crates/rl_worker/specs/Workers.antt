@@ -38,9 +38,11 @@ installs tables c = map (install_of tables) c.item.writes
 -- the phase of a commit, by its part
 abbrev pub part_phase : List Table → Commit → Part → Phase
 part_phase tables c (part.Locking held) =
-    Locking c.item.index c.reads.0 (c.item.reply, c.item.writes) (take held (installs tables c)) (drop held (installs tables c))
+    Locking c.item.index c.reads.0 (c.item.reply, c.item.writes)
+    (take held (installs tables c)) (drop held (installs tables c))
 part_phase tables c (part.Validating done) =
-    Validating c.item.index (packed c.item.stamp) (take done c.reads.0) (drop done c.reads.0) (c.item.reply, c.item.writes) (installs tables c)
+    Validating c.item.index (packed c.item.stamp) (take done c.reads.0) (drop done c.reads.0)
+    (c.item.reply, c.item.writes) (installs tables c)
 part_phase tables c (part.Storing closed stored) =
     Storing c.item.index (packed c.item.stamp) stored (drop closed (installs tables c))
 part_phase tables c (part.Refusing closed held) =
@@ -157,7 +159,8 @@ pub record WorkerFits (tables : List Table) (lists : List (List (List Op))) (w :
   pub first : 1 ≤ w.number
   pub list : w.number ≤ length lists
   pub epoch : w.epoch < 2 ^ 20
-  pub stage : is_resting w.stage ≡ false → IsSomeAnd (request lists w.number w.index) (λ txn. StageFits tables txn w w.stage)
+  pub stage : is_resting w.stage ≡ false
+      → IsSomeAnd (request lists w.number w.index) (λ txn. StageFits tables txn w w.stage)
 
 -- ---- what a worker and the records stand for in the core, and what a step does there ----
 -- the packed stamp that comes next

@@ -275,7 +275,8 @@ impl Commit {
 
 /// One cell of the row that a write makes: presence, or a column, which is 0 where it makes none.
 fn cell_of(write: &Write, at: u32) -> u64
-    ensures { (columns : ℕ) → RowHas columns write.now.row → at ≤ columns → result ≡ get_or (cells_of columns write.now.row) at 0 }
+    ensures { (columns : ℕ) → RowHas columns write.now.row → at ≤ columns
+        → result ≡ get_or (cells_of columns write.now.row) at 0 }
 {
     match &write.row {
         None => 0,

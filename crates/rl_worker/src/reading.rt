@@ -54,7 +54,8 @@ impl Reading {
     /// Whether the next read is open, and all cells of its record are loaded.
     pub fn is_loaded(&self, words: &Words) -> bool
         requires { self.now.next.rec < length words.now.records.items }
-        ensures { result ≡ (self.now.is_open && nat_le (length (found words.now.records.items self.now.next.rec).cells) (length self.now.next.row)) }
+        ensures { result ≡ (self.now.is_open
+            && nat_le (length (found words.now.records.items self.now.next.rec).cells) (length self.now.next.row)) }
     {
         self.is_open && self.next.row.len() >= words.records[self.next.rec as usize].cells.len()
     }
@@ -63,7 +64,8 @@ impl Reading {
     pub fn load(&mut self, words: &Words, schema: &Schema, txn: &Txn) -> Moved
         requires reading { IsReading schema.now txn.now self.old }
         requires records { RecordsFit schema.now words.now.records.items }
-        requires more { (self.old.is_open && nat_le (length (found words.now.records.items self.old.next.rec).cells) (length self.old.next.row)) ≡ false }
+        requires more { (self.old.is_open
+            && nat_le (length (found words.now.records.items self.old.next.rec).cells) (length self.old.next.row)) ≡ false }
         ensures act { IsLoad self.old self.new words.now result }
         ensures reading { IsReading schema.now txn.now self.new }
         ensures there { NamesRecord schema.now result.refused }
@@ -130,7 +132,10 @@ impl Reading {
         requires records { RecordsFit schema.now words.now.records.items }
         requires later { self.is_open ≡ true }
         requires loaded { length (found words.now.records.items self.next.rec).cells ≤ length self.next.row }
-        ensures act { (s : Setting) (w epoch q : ℕ) → IsAct s w epoch (reading_phase q self) (confirmed_phase q result) words.now words.now (record { act = Act.Confirm self.next.rec (word (found words.now.records.items self.next.rec)); refused = result_err result; ended = None }) }
+        ensures act { (s : Setting) (w epoch q : ℕ)
+            → let found_word = word (found words.now.records.items self.next.rec) in
+            IsAct s w epoch (reading_phase q self) (confirmed_phase q result) words.now words.now
+            (record { act = Act.Confirm self.next.rec found_word; refused = result_err result; ended = None }) }
         ensures asking { IfOk result (IsAsking schema.now txn.now) }
         ensures there { NamesRecord schema.now (result_err result) }
     {

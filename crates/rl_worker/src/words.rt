@@ -94,7 +94,9 @@ impl Record {
     pub fn conflict(&self, rec: u32, seen: u64, is_locked: bool) -> Option<Refusal>
         requires stamp { self.now.stamp < 2 ^ 60 }
         requires seen { seen < 2 ^ 60 }
-        ensures { result ≡ (if is_locked then Some (Refusal.Locked rec (2 * self.now.stamp + 1)) else if self.now.stamp == seen then None else Some (Refusal.Changed rec (2 * seen) (2 * self.now.stamp))) }
+        ensures { result ≡ (if is_locked then Some (Refusal.Locked rec (2 * self.now.stamp + 1))
+            else if self.now.stamp == seen then None
+            else Some (Refusal.Changed rec (2 * seen) (2 * self.now.stamp))) }
     {
         if is_locked {
             Some(Refusal::Locked {

@@ -63,7 +63,8 @@ impl Worker {
         ensures rests { (tables : List Table) → phase_of_worker tables result ≡ Rest next }
         ensures next { next_of result ≡ next }
         ensures undecided { decided_item result ≡ None }
-        ensures fits { (tables : List Table) (lists : List (List (List Op))) → 1 ≤ worker → worker ≤ length lists → epoch < 2 ^ 20 → WorkerFits tables lists result }
+        ensures fits { (tables : List Table) (lists : List (List (List Op)))
+            → 1 ≤ worker → worker ≤ length lists → epoch < 2 ^ 20 → WorkerFits tables lists result }
     {
         Worker {
             number: worker,
@@ -104,7 +105,8 @@ impl Worker {
         ensures drawn { result ≡ words.old.next }
         ensures same { self.new ≡ self.old }
         ensures words { words.new ≡ record words.old { next = words.old.next + 1 } }
-        ensures idle { (tables : List Table) (core : Core) → Stands tables self.old words.old core → Stands tables self.new words.new (idle core (number_of self.old)) }
+        ensures idle { (tables : List Table) (core : Core) → Stands tables self.old words.old core
+            → Stands tables self.new words.new (idle core (number_of self.old)) }
     {
         let seq = words.next;
         words.next += 1;
@@ -130,7 +132,8 @@ impl Worker {
         requires txn { TxnFits schema.now txn.now }
         requires asking { IsAsking schema.now txn.now reading }
         requires epoch { self.now.epoch < 2 ^ 20 }
-        ensures phase { stage_phase schema.now self.now.index result ≡ asked self.now.index reading.reads.0 (outcome schema.now txn.now reading.reads.0) }
+        ensures phase { stage_phase schema.now self.now.index result
+            ≡ asked self.now.index reading.reads.0 (outcome schema.now txn.now reading.reads.0) }
         ensures fits { StageFits schema.now txn.now self.now result }
         ensures undecided { decided_at result ≡ None }
         ensures attempt { is_resting result ≡ false }
@@ -153,7 +156,9 @@ impl Worker {
         ensures worker { result.item.worker ≡ self.now.number }
         ensures index { result.item.index ≡ self.now.index }
         ensures stamp { result.item.stamp ≡ record { epoch = self.now.epoch; seq = 0 } }
-        ensures run { (tables : List Table) (txn : List Op) (rows : Rows) → IsEval tables txn reading.eval → HasRows (known reading.eval) rows → (result.item.reply, result.item.writes) ≡ run tables txn rows }
+        ensures run { (tables : List Table) (txn : List Op) (rows : Rows)
+            → IsEval tables txn reading.eval → HasRows (known reading.eval) rows
+            → (result.item.reply, result.item.writes) ≡ run tables txn rows }
     {
         let Reading {
             eval,
@@ -212,7 +217,8 @@ impl Worker {
         requires records { RecordsFit schema.now words.now.records.items }
         requires reads { is_reading self.old.stage ≡ true }
         requires more { is_loaded self.old.stage words.now ≡ false }
-        ensures act { (s : Setting) (w epoch : ℕ) → IsAct s w epoch (phase_of_worker schema.now self.old) (phase_of_worker schema.now self.new) words.now words.now result }
+        ensures act { (s : Setting) (w epoch : ℕ)
+            → IsAct s w epoch (phase_of_worker schema.now self.old) (phase_of_worker schema.now self.new) words.now words.now result }
         ensures attempt { IsAttemptOf self.old self.new }
         ensures fits { StageFits schema.now txn.now self.new self.new.stage }
         ensures undecided { decided_item self.new ≡ None }
@@ -305,7 +311,8 @@ impl Worker {
     /// Ends the attempt, and answers its item if it was decided.
     fn end(&mut self) -> Option<Item>
         requires { self.old.index ≤ 8192 }
-        ensures { (c : Commit) → self.old.stage ≡ Stage.Committing c → (self.new ≡ ended_worker self.old c) × (result ≡ decided_at self.old.stage) }
+        ensures { (c : Commit) → self.old.stage ≡ Stage.Committing c
+            → (self.new ≡ ended_worker self.old c) × (result ≡ decided_at self.old.stage) }
     {
         let Stage::Committing(commit) = mem::replace(&mut self.stage, Stage::Resting) else {
             return None;
@@ -362,7 +369,8 @@ impl Worker {
         requires next { words.old.next < 2 ^ 40 - 1 }
         ensures step { (core : Core) → Stands schema.now self.old words.old core
             → let setting = setting_of schema.now lists.now (epoch_of self.old) in
-            IfOk result (λ told. Steps schema.now self.old self.new words.new told core (step setting core (number_of self.old))) }
+            let core_new = step setting core (number_of self.old) in
+            IfOk result (λ told. Steps schema.now self.old self.new words.new told core core_new) }
         ensures act { (core : Core) → Stands schema.now self.old words.old core
             → let setting = setting_of schema.now lists.now (epoch_of self.old) in
             IfOk result (λ told. told.act ≡ act_of_step setting words.old.next core (number_of self.old)) }

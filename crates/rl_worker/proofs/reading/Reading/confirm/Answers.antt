@@ -1,13 +1,25 @@
-use Rattle.std.proofs.Common.{◌≡◌, ◌<◌, ◌≤◌, ◌==◌, ◌∙◌, ap, sym, subst, length, All, true, arith}
+use Rattle.std.proofs.Common.{◌≡◌, ◌<◌, ◌≤◌, ◌==◌, ◌∙◌, ◌+◌, ◌*◌, Some, None, if◌then◌else◌, ap, sym, subst, length, All, true, arith}
 use Rattle.std.specs.FinMap as finite
 use Rattle.rl_tables.specs.Numbers.{sizes_of, place_of}
 use Rattle.rl_txn.specs.Eval.{is_new, known, awaited}
+use Rattle.rl_base.specs.declared.refusal.Refusal.TheVariants as Refusal
 use Rattle.rl_worker.specs.Opening.{overlay_of}
 use Rattle.rl_value.specs.Cells.{row_of}
 use Rattle.rl_worker.specs.Workers.{ReadFits}
 use Rattle.rl_worker.proofs.Commits.{found_is}
-use Rattle.rl_worker.proofs.Readings.{overlay_with, all_with, no_conflict, confirms}
+use Rattle.rl_worker.proofs.Readings.{overlay_with, all_with, no_conflict, confirms, refuses}
 use Rattle.rl_worker.proofs.reading.Reading.confirm.Goals as goal
+
+pub returns-in-Some-clause-act : goal.returns-in-Some-clause-act
+returns-in-Some-clause-act c =
+    let recs = c.args.words.now.records.items in
+    let x = c.index-record.result.now in
+    let next = c.args.self.next in
+    let there : next.rec < length recs = omega (arith, c.requires.reading.next.0, c.requires.records.count) in
+    let fx = found_is recs next.rec x there c.index-record.ensures in
+    let long : length x.cells ≤ length next.row = rw (sym fx) c.requires.loaded in
+    let said = ap (λ h. if h then Some (Refusal.Locked next.rec (2 * x.stamp + 1)) else if x.stamp == next.seen then None else Some (Refusal.Changed next.rec (2 * next.seen) (2 * x.stamp))) (sym c.is_some.ensures) ∙ sym c.conflict-conflict.ensures ∙ c.in-Some.is in
+    λ s w e q. refuses s w e q c.args.self c.args.words.now x c.in-Some.refusal c.requires.later fx long said
 
 pub returns-in-None-clause-act : goal.returns-in-None-clause-act
 returns-in-None-clause-act c =
