@@ -1,4 +1,4 @@
--- What a leader with_promise as led was acked by a second quorum.
+-- What a leader counts as acknowledged was acked by a second quorum.
 use Rattle.std.proofs.Common.{◌≡◌, ◌≢◌, ◌⊎◌, ℕ, zero, suc, ◌+◌, ◌-◌, ◌<◌, ◌≤◌, max, List, [], ◌∷◌, ◌++◌, length, map, get_or, set, take, replicate, cond, Bool, true, false, ◌&&◌, ◌==◌, nat_le, if◌then◌else◌, Option, Some, None, refl, sym, ap, ◌∙◌, arith, inl, inr, eqb-true, eq-eqb, get_or-set_same, get_or-set_other, length-set, le-leb}
 use Rattle.std.proofs.Math.Seq.{take-suc}
 use Rattle.std.proofs.lemmas.Bool.{cases_eq, cases_lt, and_parts, cond_both, or_cases, or_left, or_right, leb-true, lt-leb}
@@ -12,7 +12,8 @@ use Rattle.rl_paxos.specs.Logs.{Batch, Log}
 use Rattle.rl_paxos.specs.Quorums.{is_node, count, is_quorum}
 use Rattle.rl_paxos.specs.Recovery.{Promise, Candidate, with_promise, recovered_logs}
 use Rattle.rl_paxos.proofs.Counting.{is_node_low, is_node_high}
-use Rattle.rl_paxos.proofs.Members.{In, in_front}
+use Rattle.rl_base.proofs.Members.{In}
+use Rattle.rl_paxos.proofs.Members.{in_prefix}
 use Rattle.rl_election.specs.World.{Cluster, Message, Prepare, Promised, Sync, Accept, Ack, Envelope, Role, Follows, Stands, Leads, Node, Term, StreamWorld, initial_streams, is_up, is_stream, no_stream, stream_of, with_stream}
 use Rattle.rl_election.specs.StreamEvents.{StreamEvent, Elect, Deliver, Propose, Crash, Return, Lose, acts, unless_refused, may_stand, initial_logs, leads, stands_or_leads, receives_promise, counts_ack, receives_ack, receives, delivers, proposes_in, proposes, after_stream_event, after_stream_events, updated}
 use Rattle.rl_election.specs.Chosen.{acks_at_least, has_acked, is_chosen_len}
@@ -35,7 +36,7 @@ AllCounted g w = (e : ℕ) (t : Term) → w.terms e ≡ Some t → (s : ℕ) →
 acked_stays : (w v : StreamWorld) → Stays w v → (e s len a : ℕ) → Acked w e s len a → Acked v e s len a
 acked_stays w v st e s len a k = record {
   longer = k.longer;
-  sent = (k.sent.0, rw (← st.sent.1) (in_front w.sent st.sent.0 _ k.sent.1));
+  sent = (k.sent.0, rw (← st.sent.1) (in_prefix w.sent st.sent.0 _ k.sent.1));
   reaches = k.reaches;
 }
 
@@ -190,7 +191,7 @@ events_counted g (x ∷ xs) w inv all = events_counted g xs (after_stream_event 
 pub initial_counted : (g : Cluster) → AllCounted g (initial_streams g)
 initial_counted g e t is s there = absurd (let q : None ≡ Some t = is in cc)
 
--- ---- a length that a quorum acked_count was acked by a second quorum ----
+-- ---- a length that a quorum reached was acked by a second quorum ----
 
 -- a sent ack passes the test
 acked_passes : (ms : List Envelope) (e s len a : ℕ) (longer to : ℕ) → In (record { from = a; to = to; message = Ack e s longer }) ms → len ≤ longer → has_acked ms e s len a ≡ true

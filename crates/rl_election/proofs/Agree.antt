@@ -1,4 +1,4 @@
--- What a second quorum acked stands at the head of every later first log.
+-- What a second quorum acked stands at the head of every later initial log.
 use Rattle.std.proofs.Common.{◌≡◌, ◌⊎◌, ℕ, zero, suc, ◌+◌, ◌-◌, ◌<◌, ◌≤◌, List, [], ◌∷◌, ◌++◌, length, get_or, true, ◌==◌, ◌&&◌, nat_le, Some, refl, sym, arith, inl, inr, eqb-true}
 use Rattle.std.proofs.lemmas.Bool.{cases_eq, and_parts, or_cases, leb-true, true≢false}
 use Rattle.std.specs.List.{best_of}
@@ -8,7 +8,7 @@ use Rattle.rl_paxos.specs.Quorums.{is_quorum}
 use Rattle.rl_paxos.specs.Recovery.{Promise, has_promised, recovered, is_better}
 use Rattle.rl_paxos.proofs.Best.{NoBetter, best_in, best_top}
 use Rattle.rl_paxos.proofs.Counting.{meet}
-use Rattle.rl_paxos.proofs.Members.{In}
+use Rattle.rl_base.proofs.Members.{In}
 use Rattle.rl_election.specs.World.{Cluster, QuorumsIntersect, Message, Prepare, Promised, Sync, Accept, Ack, Envelope, Term, StreamWorld, is_stream}
 use Rattle.rl_election.specs.Chosen.{acks_at_least, has_acked}
 use Rattle.rl_election.proofs.Inv.{initial_at, log_at, WasSent, InLeaderLog, KeptOk, shown, PromiseOk, Shows, Used, TermOk, Inv}

@@ -7,11 +7,11 @@ use Rattle.rl_paxos.specs.Logs.{Batch, Log}
 use Rattle.rl_paxos.specs.Quorums.{is_quorum}
 use Rattle.rl_paxos.specs.Recovery.{Promise, Candidate, has_promised, recovered}
 use Rattle.rl_paxos.proofs.Counting.{EachOnce}
-use Rattle.rl_paxos.proofs.Members.{In}
+use Rattle.rl_base.proofs.Members.{In}
 use Rattle.rl_election.specs.World.{Cluster, Message, Prepare, Promised, Sync, Accept, Ack, Envelope, Role, Follows, Stands, Leads, Term, StreamWorld, no_stream}
 use Rattle.rl_election.proofs.Prefixes.{prefix_self, prefix_trans, prefix_length, prefix_get}
 
--- what an acceptor with_kept at an index
+-- what an acceptor keeps at an index
 abbrev pub kept_at : Acceptor → ℕ → Kept
 kept_at x i = get_or x.streams i nothing_kept
 
@@ -25,7 +25,7 @@ log_at t i = (get_or t.streams i no_stream).log
 abbrev pub WasSent : StreamWorld → (from : ℕ) → Message → Type 0
 WasSent w from message = (to : ℕ) × In (record { from = from; to = to; message = message }) w.sent
 
--- a log begins with the first log of an epoch and is a prefix of its leader's
+-- a log begins with the initial log of an epoch and is a prefix of its leader's
 pub record InLeaderLog (w : StreamWorld) (e i : ℕ) (log : Log) : Type 0 where
   pub term : Term
   pub term_is : w.terms e ≡ Some term
@@ -112,7 +112,7 @@ pub record Inv (g : Cluster) (w : StreamWorld) : Type 0 where
 
 -- ---- what only grows ----
 
--- a term with_kept its first logs, and its logs grow
+-- a term keeps its initial logs, and its logs grow
 pub record TermGrows (t u : Term) : Type 0 where
   pub initial : u.initial ≡ t.initial
   pub logs : (i : ℕ) → IsPrefix (log_at t i) (log_at u i)

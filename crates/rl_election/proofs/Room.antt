@@ -10,7 +10,7 @@ use Rattle.rl_election.specs.CandidateFits.{CandidateFits}
 pub empty_fits : (nodes streams need room : ℕ) → 1 ≤ need → need ≤ nodes → nodes < 2 ^ 32 → nodes ≤ room → CandidateFits nodes streams need room []
 empty_fits nodes streams need room some within short wide = record { some = some; within = within; short = short; room_for_all = wide; once = none nodes; whole = All-nil (HasStreams streams) }
 
--- a promise that with_promise finds room
+-- a promise that counts finds room
 pub has_room : (nodes streams need room x : ℕ) (ps : List Promise) → CandidateFits nodes streams need room ps → (is_node nodes x && not (has_promised ps x)) ≡ true → length ps < room
 has_room nodes streams need room x ps f h =
     let k = and_parts (is_node nodes x) (not (has_promised ps x)) h in

@@ -1,4 +1,4 @@
--- What was said stays said: first logs stand, and a leader's logs and what was sent only grow.
+-- What was said stays said: initial logs stand, and a leader's logs and what was sent only grow.
 use Rattle.std.proofs.Common.{◌≡◌, ℕ, zero, suc, ◌+◌, ◌≤◌, List, [], ◌∷◌, ◌++◌, length, Bool, true, not, ◌&&◌, ◌==◌, nat_le, Option, Some, None, refl, sym, ap, ◌∙◌, arith, inl, inr, append_assoc, append-nil}
 use Rattle.std.proofs.lemmas.Bool.{and_parts, or_cases, cond_both, true≢false, or_left, or_right, le-leb, leb-true}
 use Rattle.std.specs.Prelude.{slice_get}

@@ -1,4 +1,4 @@
--- Each event with_kept what holds between events.
+-- Each event keeps what holds between events.
 use Rattle.std.proofs.Common.{◌≡◌, ◌≢◌, ◌⊎◌, ℕ, zero, suc, ◌+◌, ◌-◌, ◌<◌, ◌≤◌, List, [], ◌∷◌, ◌++◌, length, map, get_or, set, Bool, true, false, not, ◌&&◌, ◌==◌, nat_lt, nat_le, if◌then◌else◌, Option, Some, None, refl, sym, ap, ◌∙◌, subst, arith, inl, inr, eqb-true, max, replicate, append-nil, length-append, length-set}
 use Rattle.std.proofs.lemmas.Bool.{cases_eq, and_parts, ltb-true, ltb-false, leb-true, cond_both, not-true, le-leb}
 use Rattle.std.proofs.lemmas.List.{length-map, get_or-map, length-replicate}
@@ -13,7 +13,8 @@ use Rattle.rl_paxos.specs.Logs.{Batch, Log}
 use Rattle.rl_paxos.specs.Quorums.{is_node, count, is_quorum}
 use Rattle.rl_paxos.specs.Recovery.{Promise, Candidate, new_candidate, with_promise, has_promised, recovered, recovered_logs}
 use Rattle.rl_paxos.proofs.Counting.{none, counted_once}
-use Rattle.rl_paxos.proofs.Members.{In, in_front, in_split}
+use Rattle.rl_base.proofs.Members.{In}
+use Rattle.rl_paxos.proofs.Members.{in_prefix, in_split}
 use Rattle.rl_election.specs.World.{Cluster, Message, Prepare, Promised, Sync, Accept, Ack, Envelope, State, Lost, Role, Follows, Stands, Leads, Node, Term, StreamWorld, to_all, initial_streams, is_up, is_stream, stream_of, with_stream}
 use Rattle.rl_election.specs.StreamEvents.{StreamEvent, Elect, Deliver, Propose, Crash, Return, Lose, updated, acts, unless_refused, may_stand, stands_for, answers, promise_message, ack_message, initial_logs, syncs, leads, stands_or_leads, receives_promise, counts_ack, receives_ack, receives, delivers, proposes_in, proposes, crashed, returned, after_stream_event, after_stream_events}
 use Rattle.rl_election.proofs.Prefixes.{prefix_self, prefix_more, prefix_trans, prefix_next}
@@ -68,7 +69,7 @@ module _ (g : Cluster) (w : StreamWorld) (inv : Inv g w) where
         | inr q ↦ absurd q
       ]
 
-  -- ---- a node changes and sends, and no term acts ----
+  -- ---- a node changes and sends, and no term does ----
   module _ (a : ℕ) (x : Node) (ms : List Envelope) (acc : AcceptorGrows (w.node a).acceptor x.acceptor) where
     abbrev pub done : StreamWorld
     done = acts w a x ms
@@ -77,7 +78,7 @@ module _ (g : Cluster) (w : StreamWorld) (inv : Inv g w) where
     done_grows = record {
       terms = λ e t is. (t, is, term_stays t);
       nodes = λ b. by_updated (λ z. AcceptorGrows (w.node b).acceptor z.acceptor) w.node a x b (λ i. rw i acc) (λ m. acceptor_stays (w.node b).acceptor);
-      sent = λ m i. in_front w.sent ms m i;
+      sent = λ m i. in_prefix w.sent ms m i;
     }
 
     pub done_inv : AcceptorOk g done x.acceptor → RoleOk g done a x.role → ((m : Envelope) → In m ms → MessageOk done m.from m.message) → AllShow done → Inv g done
@@ -349,7 +350,7 @@ module _ (g : Cluster) (w : StreamWorld) (inv : Inv g w) where
     led_grows = record {
       terms = led_terms;
       nodes = λ b. by_updated (λ z. AcceptorGrows (w.node b).acceptor z.acceptor) w.node a led_node b (λ i. rw i (acceptor_stays (w.node a).acceptor)) (λ m. acceptor_stays (w.node b).acceptor);
-      sent = λ m i. in_front w.sent led_syncs m i;
+      sent = λ m i. in_prefix w.sent led_syncs m i;
     }
 
     led_begins : (i : ℕ) → IsPrefix (initial_at led_term i) (log_at led_term i)
@@ -464,7 +465,7 @@ module _ (g : Cluster) (w : StreamWorld) (inv : Inv g w) where
       later_grows = record {
         terms = further_terms;
         nodes = λ b. rw (same b) (acceptor_stays (w.node b).acceptor);
-        sent = λ m i. in_front w.sent ms m i;
+        sent = λ m i. in_prefix w.sent ms m i;
       }
 
       at_later : later.terms e ≡ Some further

@@ -6,7 +6,8 @@ use Rattle.rl_paxos.specs.Acceptors.{Kept, Acceptor, nothing_kept, with_kept}
 use Rattle.rl_paxos.specs.Leaders.{Leading, new_leading}
 use Rattle.rl_paxos.specs.Logs.{Log}
 use Rattle.rl_paxos.specs.Recovery.{Promise, recovered, recovered_logs}
-use Rattle.rl_paxos.proofs.Members.{In, in_split}
+use Rattle.rl_base.proofs.Members.{In}
+use Rattle.rl_paxos.proofs.Members.{in_split}
 use Rattle.rl_election.specs.World.{Cluster, Message, Sync, Envelope, Term, to_all, is_stream, no_stream, with_stream}
 use Rattle.rl_election.specs.StreamEvents.{syncs, updated}
 use Rattle.rl_election.proofs.Inv.{kept_at, shown, log_at}
@@ -82,7 +83,7 @@ get_or-recovered ps (suc k) i h = elim (cases_eq i k) [
   | inr m ↦ get_front (recovered_logs ps k) (recovered ps (suc k) ∷ []) i (omega (arith, m, length-recovered ps k)) ∙ get_or-recovered ps k i (omega (arith, m))
 ]
 
--- the streams of a new leader have its first logs
+-- the streams of a new leader have its initial logs
 pub new_logs : (e n q : ℕ) (logs : List Log) (i : ℕ) → (get_or (map (new_leading e n q) logs) i no_stream).log ≡ get_or logs i []
 new_logs e n q [] i = refl
 new_logs e n q (x ∷ xs) zero = refl

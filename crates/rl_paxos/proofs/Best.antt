@@ -4,7 +4,7 @@ use Rattle.std.proofs.lemmas.Bool.{cond_both}
 use Rattle.std.proofs.lemmas.Bool.Decides.{nat_tests}
 use Rattle.std.specs.List.{best_of}
 use Rattle.rl_paxos.specs.Recovery.{Promise, recovered, is_better, promised_ballot, promised_log, IsRecovered}
-use Rattle.rl_paxos.proofs.Members.{In, in_contains, contains_in}
+use Rattle.rl_base.proofs.Members.{In, in_contains, contains_in}
 
 -- by ballot, length and node, q is not better than p
 abbrev pub NoBetterThan : (ballot len node ballot2 len2 node2 : ℕ) → Type 0

@@ -1,4 +1,4 @@
--- A length that a quorum acked_count is no longer than one that a node acked and that the quorum acked_count too.
+-- A length that a quorum reached is no longer than one that a node acked and that the quorum reached too.
 use Rattle.std.proofs.Common.{◌≡◌, ◌⊎◌, ℕ, zero, suc, ◌+◌, ◌<◌, ◌≤◌, List, [], ◌∷◌, length, get_or, All, cond, nat_le, refl, sym, ◌∙◌, arith, inl, inr, le-leb}
 use Rattle.std.proofs.lemmas.Bool.{cases_lt, lt-leb}
 use Rattle.std.proofs.lemmas.List.Elements.{All-get_or}
