@@ -4,6 +4,7 @@ ghost use Rattle.std.specs.Prelude.{◌≡◌, ℕ, ◌+◌, ◌^◌, ◌<◌, �
 ghost use Rattle.std.specs.Bool.{OnFalse};
 ghost use Rattle.std.specs.Option.{option_copied};
 ghost use Rattle.std.specs.FinMap as finite;
+ghost use Rattle.rl_base.specs.declared.limit.TheConstants.{RECORDS};
 ghost use Rattle.rl_value.specs.Tables.{size_of};
 ghost use Rattle.rl_txn.specs.Fits.{OperandFits, OpFits};
 ghost use Rattle.rl_txn.specs.Run.{value_of, column_of, row_seen, scan_sum, op_done, passes, beginning, with_reg, with_row, only_if, holds};
@@ -71,7 +72,7 @@ impl Workspace {
             (size_of schema.now table < k + count) (λ keys. k + count ≤ size_of schema.now table) }
         ensures keys { let k = value_of (progress_of self.now) key in
             IfSome result (λ keys. keys ≡ record { table = table; first = k; count = count }) }
-        ensures small { IfSome result (λ keys. keys.first + count ≤ 65536) }
+        ensures small { IfSome result (λ keys. keys.first + count ≤ RECORDS) }
     {
         let key = self.value(key);
         let size = schema.size(table);
@@ -91,7 +92,7 @@ impl Workspace {
         ensures places { let read = places_read schema.now op.now (progress_of self.now) in
             MatchOption result (read ≡ []) (λ keys. read ≡ places keys.table keys.first keys.count) }
         ensures count { IfSome result (λ keys. keys.count ≡ reads_at_most op.now) }
-        ensures small { IfSome result (λ keys. keys.first + keys.count ≤ 65536) }
+        ensures small { IfSome result (λ keys. keys.first + keys.count ≤ RECORDS) }
         ensures there { IfSome result (λ keys. (keys.table < length schema.now)
             × (keys.first + keys.count ≤ size_of schema.now keys.table)) }
     {
@@ -325,7 +326,7 @@ impl Workspace {
     /// How many of some keys are known, from a number of them on that are.
     pub fn known_keys(&self, keys: Keys, from: u32) -> u32
         requires from { from ≤ keys.count }
-        requires small { keys.first + keys.count ≤ 65536 }
+        requires small { keys.first + keys.count ≤ RECORDS }
         ensures more { from ≤ result }
         ensures few { result ≤ keys.count }
         ensures known { (j : ℕ) → from ≤ j → j < result
