@@ -1,7 +1,7 @@
 //! The bytes of items.
 
-ghost use Rattle.std.specs.Prelude.{◌≡◌, ◌<◌, ◌≤◌, ◌++◌, ◌^◌, length, All, IfOk, OnOk};
-ghost use Rattle.rl_fields.specs.Answers.{IsRead, IsReadUnlessMemory};
+ghost use Rattle.std.specs.Prelude.{◌≡◌, ◌<◌, ◌++◌, ◌^◌, All, IfOk, OnOk};
+ghost use Rattle.rl_fields.specs.Answers.{IsReadUnlessMemory};
 ghost use Rattle.rl_fields.specs.Fields.{series};
 ghost use Rattle.rl_batch.specs.Ranges.{EndInRange, ItemInRange, ItemsInRange, ItemHasWords, most_writes};
 ghost use Rattle.rl_batch.specs.Encoding.{end_number, item_bytes, items_bytes};

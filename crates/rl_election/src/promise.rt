@@ -1,6 +1,6 @@
 //! What a node promised with.
 
-ghost use Rattle.std.specs.Prelude.{◌≡◌, ◌≤◌, ◌<◌, length, slice_index, slice_index_or};
+ghost use Rattle.std.specs.Prelude.{◌≡◌, ◌≤◌, ◌<◌, length};
 ghost use Rattle.rl_paxos.specs.Recovery.{promised_ballot, promised_log, is_better};
 
 use rl_base::list::{Ballots, Log, Logs};

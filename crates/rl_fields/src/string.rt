@@ -1,6 +1,6 @@
 //! Byte strings, and the end of all bytes.
 
-ghost use Rattle.std.specs.Prelude.{◌≡◌, Ok};
+ghost use Rattle.std.specs.Prelude.{Ok};
 ghost use Rattle.rl_fields.specs.Answers.{IsRead};
 ghost use Rattle.rl_fields.specs.Fields.{string, alone};
 

@@ -1,6 +1,6 @@
 -- Messages: what is read is encoded so and in range, and what is encoded so is read again.
 use Rattle.std.proofs.Common.{◌≡◌, ℕ, ◌-◌, ◌^◌, ◌<◌, ◌≤◌, Bool, true, false, cond, ◌&&◌, leb, List, [], ◌∷◌, ◌++◌, length, map, Result, Ok, Err, refl, sym, ap, subst, ◌∙◌, append_assoc, arith, inl, inr}
-use Rattle.std.specs.Prelude.{IfOk, ◌==◌}
+use Rattle.std.specs.Prelude.{◌==◌}
 use Rattle.std.specs.List.{flat_map, zip, AllByRecursion}
 use Rattle.std.proofs.lemmas.Bool.{eqb-true, leb-true}
 use Rattle.std.proofs.lemmas.List.{append-nil, length-map}
@@ -15,7 +15,7 @@ use Rattle.rl_base.specs.declared.flaw.Flaw.TheVariants.{Kind}
 use Rattle.rl_fields.specs.declared.fault.Fault.{Fault}
 use Rattle.rl_fields.specs.Faults.{fault_at, with_offset}
 use Rattle.rl_fields.specs.Fields.{within, string, several, alone, whole}
-use Rattle.rl_fields.proofs.FieldLaws.{IsBytes-rest, bind_ok, ok_is, Takes, Takes-then, within_takes, within_again, string_takes, string_again, alone_takes, both, chosen}
+use Rattle.rl_fields.proofs.FieldLaws.{IsBytes-rest, bind_ok, ok_is, Takes, Takes-then, within_takes, within_again, string_takes, string_again, both, chosen}
 use Rattle.rl_fields.proofs.DecodeLaws.{IsWholeReader}
 use Rattle.rl_fields.proofs.SeriesLaws.{several_takes, several_again}
 use Rattle.rl_msg.specs.declared.head.Head.{Head}

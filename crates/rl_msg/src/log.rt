@@ -1,6 +1,6 @@
 //! The bytes of logs and streams.
 
-ghost use Rattle.std.specs.Prelude.{◌≡◌, ◌≤◌, ◌++◌, length, IfOk, OnOk};
+ghost use Rattle.std.specs.Prelude.{◌≡◌, ◌++◌, length, IfOk, OnOk};
 ghost use Rattle.std.specs.List.{zip};
 ghost use Rattle.rl_fields.specs.Answers.{IsRead, IsReadUnlessMemory};
 ghost use Rattle.rl_fields.specs.Fields.{several};

@@ -1,6 +1,6 @@
 //! An election of three acceptors, a candidate and a leader.
 
-ghost use Rattle.std.specs.Prelude.{◌≡◌, ◌≤◌, length, IfOk};
+ghost use Rattle.std.specs.Prelude.{◌≡◌, length, IfOk};
 
 use rl_acceptor::acceptor::Acceptor;
 use rl_base::list::{Ballots, Bytes, Log, Logs};

@@ -1,6 +1,6 @@
 //! A stream at its leader.
 
-ghost use Rattle.std.specs.Prelude.{◌≡◌, ◌≤◌, length, IfOk};
+ghost use Rattle.std.specs.Prelude.{◌≡◌, length, IfOk};
 
 use rl_base::list::{Bytes, Log};
 use rl_base::memory::Memory;

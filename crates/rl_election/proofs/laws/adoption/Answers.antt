@@ -1,7 +1,5 @@
 use Rattle.std.proofs.Common.{◌-◌, refl}
-use Rattle.rl_paxos.specs.Acceptors.{kept_ballot, kept_log}
-use Rattle.rl_election.specs.StreamEvents.{streams_after}
-use Rattle.rl_election.specs.Laws.{AtNode, world_at, acceptor_at, ballot_at, log_at}
+use Rattle.rl_election.specs.Laws.{AtNode, world_at, ballot_at, log_at}
 use Rattle.rl_election.proofs.Inv as inv
 use Rattle.rl_election.proofs.Inv.{Inv, InLeaderLog, initial_at}
 use Rattle.rl_election.proofs.Steps.{events_inv, initial_inv}

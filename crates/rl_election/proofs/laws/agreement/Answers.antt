@@ -1,4 +1,4 @@
-use Rattle.std.proofs.Common.{◌≡◌, ◌-◌, [], ◌∷◌, ◌++◌, ◌==◌, List, length, refl, arith, inl, inr, eqb-true}
+use Rattle.std.proofs.Common.{◌≡◌, ◌-◌, [], ◌∷◌, ◌==◌, List, length, refl, arith, inl, inr, eqb-true}
 use Rattle.std.proofs.lemmas.Bool.{or_cases}
 use Rattle.rl_base.specs.Lists.{IsPrefix}
 use Rattle.rl_paxos.specs.Logs.{Log}
