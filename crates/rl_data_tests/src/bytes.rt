@@ -5,7 +5,7 @@ ghost use Rattle.std.specs.Prelude.{◌<◌};
 use rl_base::list::{Bytes, Fails};
 use rl_io::memory_sink::MemSink;
 use rl_io::memory_source::MemSource;
-use rl_io::sink::{Sink, WriteFault, write_whole};
+use rl_io::sink::{Sink, write_whole};
 use rl_io::source::{Failed, ReadError, Source, read_all};
 use rl_io::standard_sink::StdSink;
 use rl_io::standard_source::StdSource;
@@ -34,6 +34,11 @@ fn all_bytes_are_read(rt: HostRuntime) -> Result<(), Fail> {
         read_all(rt.alloc(), &mut long, 6).err(),
         Some(ReadError::TooLong { limit: 6 })
     );
+    Ok(())
+}
+
+#[test]
+fn a_failing_read_ends_the_reading(rt: HostRuntime) -> Result<(), Fail> {
     for failing in 1..5 {
         let mut failed = source(rt.alloc(), 3, failing)?;
         assert_eq!(rt;
@@ -44,22 +49,29 @@ fn all_bytes_are_read(rt: HostRuntime) -> Result<(), Fail> {
     Ok(())
 }
 
+/// Writes to a sink with this room, whose call of this number fails: whether all was written, and
+/// the sink.
+fn written(alloc: Global, room: usize, failing: u64) -> Result<(bool, MemSink), Fail> {
+    let mut fails = Fails::new(alloc);
+    fails.push(failing)?;
+    let mut sink = MemSink::new(alloc, 3, room, fails)?;
+    let is_whole = write_whole(&mut sink, b"seven b").is_ok();
+    Ok((is_whole, sink))
+}
+
 #[test]
 fn a_prefix_is_written_at_a_fault(rt: HostRuntime) -> Result<(), Fail> {
-    for (failing, held) in [(1, ""), (2, "sev"), (3, "seven "), (4, "seven b")] {
-        let mut fails = Fails::new(rt.alloc());
-        fails.push(failing)?;
-        let mut sink = MemSink::new(rt.alloc(), 3, 10, fails)?;
-        let outcome = write_whole(&mut sink, b"seven b");
-        assert_eq!(rt;
-            outcome.err(),
-            if failing < 4 { Some(WriteFault) } else { None }
-        );
+    for (room, failing, held) in [
+        (10, 1, ""),
+        (10, 2, "sev"),
+        (10, 3, "seven "),
+        (10, 4, "seven b"),
+        (4, 0, "seve"),
+    ] {
+        let (is_whole, sink) = written(rt.alloc(), room, failing)?;
+        assert_eq!(rt; is_whole, failing == 4);
         assert_eq!(rt; sink.bytes(), held.as_bytes());
     }
-    let mut full = MemSink::new(rt.alloc(), 3, 4, Fails::new(rt.alloc()))?;
-    assert_eq!(rt; write_whole(&mut full, b"seven b").err(), Some(WriteFault));
-    assert_eq!(rt; full.bytes(), b"seve".as_slice());
     Ok(())
 }
 

