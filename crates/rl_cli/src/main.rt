@@ -1,8 +1,8 @@
 //! Passes its words, its input and its output on to the top call.
 #![tactic(auto)]
 
-use rl_app::command::rolis;
 use rl_app::answer::{Status, deliver};
+use rl_app::command::rolis;
 use rl_io::standard_sink::StdSink;
 use rl_io::standard_source::StdSource;
 use std::alloc::AllocError;
