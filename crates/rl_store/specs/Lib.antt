@@ -1,0 +1,11 @@
+pub mod Entries
+pub mod Layout
+pub mod Rule
+pub mod Views
+pub mod Steps
+pub mod Serial
+pub mod Ends
+pub mod Laws
+pub mod Refusals
+pub mod Opening
+pub mod Passes
