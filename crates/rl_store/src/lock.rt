@@ -1,4 +1,4 @@
-//! Locks, the draw of a stamp, and validation.
+//! Locks, and the draw of a stamp.
 
 ghost use Rattle.std.specs.Prelude.{◌≡◌, ℕ, ◌+◌, ◌*◌, ◌%◌, ◌^◌, ◌<◌, ◌≤◌, None, length, IfOk, IfErr, OnErr};
 ghost use Rattle.rl_store.specs.Passes.{IsAbove, IsLockedRefusal};
