@@ -56,10 +56,10 @@ fn serial_run(alloc: Global, script: Script) -> Result<String, Memory>
 {
     let Script {
         schema,
-        mut rows,
+        rows,
         lists,
         ..
     } = script;
-    let items = run_serially(alloc, &schema, &lists, &mut rows)?;
+    let (items, rows) = run_serially(alloc, &schema, &lists, rows)?;
     Ok(serial_report(alloc, &items, &schema, &rows)?)
 }

@@ -137,8 +137,7 @@ fn requests_run_one_after_another(rt: HostRuntime) -> Result<(), Fail> {
     let mut lists = Lists::new(rt.alloc());
     lists.push(Requests::new(rt.alloc()))?;
     lists.push(requests)?;
-    let mut rows = rows(rt.alloc())?;
-    let items = run_serially(rt.alloc(), &schema, &lists, &mut rows)?;
+    let (items, rows) = run_serially(rt.alloc(), &schema, &lists, rows(rt.alloc())?)?;
     assert_eq!(rt; items.len(), 1);
     for item in items.as_slice() {
         assert_eq!(rt; item.stamp, Stamp { epoch: 1, seq: 2 });

@@ -1,6 +1,6 @@
 //! A sink in memory, whose calls are short and fail as asked.
 
-ghost use Rattle.std.specs.Prelude.{◌≡◌, ◌≢◌, ◌↔◌, ◌<◌, ◌≤◌, ◌-◌, ◌⊎◌, [], ◌++◌, length, take, min, Contains, Ok, Some, IfOk, IsErr, OnErr};
+ghost use Rattle.std.specs.Prelude.{◌≡◌, ◌≢◌, ◌↔◌, ◌<◌, ◌≤◌, ◌-◌, ◌⊎◌, [], ◌++◌, length, take, min, Contains, Ok, Some, IfOk, IsErr, OnOk, OnErr};
 ghost use Rattle.std.specs.Io.KnownBytes.{append_known};
 ghost use Rattle.rl_io.specs.Faults.{one_more, Rose};
 ghost use Rattle.rl_io.specs.Memory.{SinkState};
@@ -87,6 +87,7 @@ impl Sink for MemSink {
         ensures taken { IfOk result
             (λ n. Some self.new.held ≡ append_known (Some self.old.held) (take n piece.now)) }
         ensures kept { OnErr result (Some self.new.held ≡ Some self.old.held) }
+        ensures ok { OnOk result (self.new.faults ≡ self.old.faults) }
         ensures fault { OnErr result (Rose self.old.faults self.new.faults) }
         ensures counted { self.old.faults ≤ self.new.faults }
 

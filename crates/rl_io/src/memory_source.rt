@@ -1,6 +1,6 @@
 //! A source in memory, whose calls are short and fail as asked.
 
-ghost use Rattle.std.specs.Prelude.{◌≡◌, ◌↔◌, ◌<◌, ◌≤◌, length, take, drop, [], min, Contains, Ok, Some, IfOk, IsErr, OnErr};
+ghost use Rattle.std.specs.Prelude.{◌≡◌, ◌↔◌, ◌<◌, ◌≤◌, length, take, drop, [], min, Contains, Ok, Some, IfOk, IsErr, OnOk, OnErr};
 ghost use Rattle.std.specs.Io.KnownBytes.{prepend_known};
 ghost use Rattle.rl_io.specs.Faults.{one_more, Rose};
 ghost use Rattle.rl_io.specs.Memory.{SourceState};
@@ -65,13 +65,15 @@ impl Source for MemSource {
 
     ghost left = { λ s. Some s.left };
 
-    /// Gives the least of what is left, `chunk` and the buffer's length.
+    /// Gives the least of what is left, `chunk` and the buffer's length. The rest of the buffer
+    /// stays as it was, and after `Failed` all of it.
     fn read(&mut self, buf: &mut [u8]) -> Result<usize, Failed>
         ensures within { IfOk result (λ n. n ≤ length buf.new) }
         ensures given { IfOk result
             (λ n. Some self.old.left ≡ prepend_known (take n buf.new) (Some self.new.left)) }
         ensures end { result ≡ Ok 0 → 0 < length buf.new → self.old.left ≡ [] }
         ensures kept { OnErr result (Some self.new.left ≡ Some self.old.left) }
+        ensures ok { OnOk result (self.new.faults ≡ self.old.faults) }
         ensures fault { OnErr result (Rose self.old.faults self.new.faults) }
         ensures counted { self.old.faults ≤ self.new.faults }
 
@@ -83,6 +85,8 @@ impl Source for MemSource {
             record self.old { left = drop n self.old.left; calls = one_more self.old.calls }) }
         ensures failed { OnErr result (self.new ≡
             record self.old { calls = one_more self.old.calls; faults = one_more self.old.faults }) }
+        ensures rest { IfOk result (λ n. drop n buf.new ≡ drop n buf.old) }
+        ensures unread { OnErr result (buf.new ≡ buf.old) }
     {
         self.calls = self.calls.saturating_add(1);
         if self.fails.contains(self.calls) {

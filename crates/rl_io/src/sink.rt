@@ -1,6 +1,6 @@
 //! Where bytes go.
 
-ghost use Rattle.std.specs.Prelude.{◌≡◌, ◌≢◌, ◌<◌, ◌≤◌, ℕ, List, Option, Ok, length, take, IfOk, OnOk, OnErr};
+ghost use Rattle.std.specs.Prelude.{◌≡◌, ◌≢◌, ◌<◌, ◌≤◌, ℕ, List, [], Option, Ok, IsOk, length, take, IfOk, OnOk, OnErr};
 ghost use Rattle.std.specs.Io.KnownBytes.{append_known};
 ghost use Rattle.rl_io.specs.Faults.{Rose};
 
@@ -23,6 +23,7 @@ pub trait Sink {
         ensures taken { IfOk result
             (λ n. held self.new ≡ append_known (held self.old) (take n piece.now)) }
         ensures kept { OnErr result (held self.new ≡ held self.old) }
+        ensures ok { OnOk result (faults self.new ≡ faults self.old) }
         ensures fault { OnErr result (Rose (faults self.old) (faults self.new)) }
         ensures counted { faults self.old ≤ faults self.new };
 }
@@ -31,14 +32,18 @@ pub trait Sink {
 #[derive(Clone, Copy, Debug, PartialEq, Eq)]
 pub struct WriteFault;
 
-/// Writes all the bytes: each write is handed all that are still to go.
+/// Writes all the bytes: each write is handed all that are still to go. Without bytes it makes none.
 ///
-/// `WriteFault` comes only where a write failed; a prefix of the bytes is written then.
+/// The first write that fails is the last: `WriteFault` comes only where one failed, and a prefix
+/// of the bytes is written then; `Ok` only where none did.
 #[tactic(auto, using(crate::proofs::Held::held_more))]
 pub fn write_whole<K: Sink>(sink: &mut K, bytes: &[u8]) -> Result<(), WriteFault>
     ensures all { OnOk result (K.held sink.new ≡ append_known (K.held sink.old) bytes.now) }
     ensures prefix { OnErr result
         ((n : ℕ) × (K.held sink.new ≡ append_known (K.held sink.old) (take n bytes.now))) }
+    ensures none { bytes.now ≡ [] → IsOk result × (sink.new ≡ sink.old) }
+
+    ensures ok { OnOk result (K.faults sink.new ≡ K.faults sink.old) }
     ensures fault { OnErr result (Rose (K.faults sink.old) (K.faults sink.new)) }
     ensures counted { K.faults sink.old ≤ K.faults sink.new }
 {

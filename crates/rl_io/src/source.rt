@@ -1,6 +1,6 @@
 //! Where bytes come from.
 
-ghost use Rattle.std.specs.Prelude.{◌≡◌, ◌<◌, ◌≤◌, ℕ, List, [], Option, Some, Ok, length, take, IfOk, OnErr, IfSome, IsErrOf};
+ghost use Rattle.std.specs.Prelude.{◌≡◌, ◌<◌, ◌≤◌, ℕ, List, [], Option, Some, Ok, length, take, IfOk, OnOk, OnErr, IfSome, IsErrOf};
 ghost use Rattle.std.specs.Io.KnownBytes.{prepend_known};
 ghost use Rattle.rl_io.specs.Faults.{Rose};
 
@@ -31,6 +31,7 @@ pub trait Source {
         ensures end { result ≡ Ok 0 → 0 < length buf.new
             → IfSome (left self.old) (λ left. left ≡ []) }
         ensures kept { OnErr result (left self.new ≡ left self.old) }
+        ensures ok { OnOk result (faults self.new ≡ faults self.old) }
         ensures fault { OnErr result (Rose (faults self.old) (faults self.new)) }
         ensures counted { faults self.old ≤ faults self.new };
 }
@@ -62,8 +63,9 @@ impl From<Memory> for ReadError {
 
 /// All bytes up to the end of the input, where they are no more than the limit.
 ///
-/// `ReadFault` comes only where a read failed, `TooLong` exactly where more than `limit` bytes
-/// came. After an error some of the bytes are gone.
+/// The first read that fails is the last: `ReadFault` comes only where one failed, all other
+/// answers only where none did. `TooLong` comes exactly where more than `limit` bytes came. After
+/// an error some of the bytes are gone.
 pub fn read_all<S: Source>(alloc: Global, source: &mut S, limit: usize) -> Result<Bytes, ReadError>
     ensures within { IfOk result (λ bytes. length bytes ≤ limit) }
     ensures all { IfOk result (λ bytes. IfSome (S.left source.old)
@@ -71,6 +73,12 @@ pub fn read_all<S: Source>(alloc: Global, source: &mut S, limit: usize) -> Resul
     ensures too_long { IsErrOf result (ReadError.TooLong limit)
         → IfSome (S.left source.old) (λ left. limit < length left) }
     ensures the_limit { (n : ℕ) → IsErrOf result (ReadError.TooLong n) → n ≡ limit }
+
+    ensures ok { OnOk result (S.faults source.new ≡ S.faults source.old) }
+    ensures too_long_unfailed { IsErrOf result (ReadError.TooLong limit)
+        → S.faults source.new ≡ S.faults source.old }
+    ensures memory_unfailed { IsErrOf result ReadError.Memory
+        → S.faults source.new ≡ S.faults source.old }
     ensures fault { IsErrOf result ReadError.ReadFault
         → Rose (S.faults source.old) (S.faults source.new) }
     ensures counted { S.faults source.old ≤ S.faults source.new }

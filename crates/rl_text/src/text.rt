@@ -1,6 +1,7 @@
 //! Lines and words of a text.
 
 ghost use Rattle.std.specs.Prelude.{◌≡◌, ◌<◌, ◌≤◌, ◌∷◌, ◌==◌, length, map, take, IfOk, IfSome, IfNone, position, true, false, if◌then◌else◌};
+ghost use Rattle.std.specs.List.{before_first, after_first};
 ghost use Rattle.rl_text.specs.Text.{lines_of, words_of, is_printable};
 
 use rl_base::slices::rest_from;
@@ -37,11 +38,13 @@ pub fn printable(line: &[u8]) -> Option<&str>
     }
 }
 
-/// The first line of a text that has bytes, and the text after its end.
-#[tactic(auto, using(crate::proofs::Lines::lines_at, crate::proofs::Lines::lines_one))]
+/// The first line of a text that has bytes, and the text after its end: nothing where it has none.
+#[tactic(auto, using(crate::proofs::Lines::first_lines))]
 pub fn first_line(text: &[u8]) -> (&[u8], &[u8])
     requires { 0 < length text.now }
     ensures line { lines_of text.now ≡ result.0.now ∷ lines_of result.1.now }
+    ensures before { result.0.now ≡ before_first (λ b. b == 10) text.now }
+    ensures after { result.1.now ≡ after_first (λ b. b == 10) text.now }
     ensures shorter { length result.1.now < length text.now }
 {
     match line_end(text) {

@@ -15,16 +15,17 @@ use rl_value::schema::Schema;
 use std::alloc::Global;
 
 /// Runs the requests of all lists one after another: list 1, then list 2 and so on, with the
-/// stamps (1, 2), (1, 3) and so on. After `Memory` some of them are done.
+/// stamps (1, 2), (1, 3) and so on. Answers the items, and the rows after them; at `Memory` the rows
+/// are gone.
 pub fn run_serially(
     alloc: Global,
     schema: &Schema,
     lists: &Lists,
-    m: &mut Map,
-) -> Result<Items, Memory>
+    mut m: Map,
+) -> Result<(Items, Map), Memory>
     requires { ListsFit schema.now lists.now }
-    ensures items { IfOk result (λ items. IsListByList schema.now lists.now m.old items) }
-    ensures rows { IfOk result (λ items. m.new ≡ rows_after m.old items) }
+    ensures items { IfOk result (λ ran. IsListByList schema.now lists.now m ran.0) }
+    ensures rows { IfOk result (λ ran. ran.1 ≡ rows_after m ran.0) }
 {
     let mut items = Items::new(alloc);
     let mut worker = 0;
@@ -37,10 +38,10 @@ pub fn run_serially(
                 epoch: 1,
                 seq: items.len() as u64 + 2,
             };
-            items.push(run_one(alloc, schema, stamp, worker, index, txn, m)?)?;
+            items.push(run_one(alloc, schema, stamp, worker, index, txn, &mut m)?)?;
         }
     }
-    Ok(items)
+    Ok((items, m))
 }
 
 /// Runs one request, and makes its writes.

@@ -1,4 +1,4 @@
-use Rattle.std.proofs.Common.{arith, length-drop, ap, length}
+use Rattle.std.proofs.Common.{◌≡◌, ◌<◌, ◌∙◌, arith, length-drop, ap, length}
 use Rattle.rl_io.proofs.Held.{held_more}
 use Rattle.rl_io.proofs.sink.write_whole.Goals as goal
 
@@ -8,6 +8,10 @@ loop-at-preserved g c =
     let rest = ap length c.rest_from.ensures in
     record {
       within = grind (arith, length-drop);
-      counted = omega (arith, c.write.ensures.counted);
+      unfailed = c.in-Ok.ensures.ok ∙ c.loop-at.invariant.unfailed;
+      begun = λ none.
+          let more : 0 < length c.rest_from.result.now = omega (arith, rest, length-drop c.loop-at.at c.args.bytes.now) in
+          let zero : c.in-Ok.count ≡ 0 = omega arith in
+          absurd (c.in-Ok.ensures.some more (cc));
       written = rw (c.in-Ok.ensures.taken, c.loop-at.invariant.written, c.rest_from.ensures) (held_more _ c.args.bytes.now c.loop-at.at c.in-Ok.count);
     }

@@ -7,7 +7,8 @@ invariant-loop-at g l =
     let sink = g.K.Sink in
     record {
       within : l.at ≤ length l.bytes;
-      counted : sink.faults l.fn.sink ≤ sink.faults l.sink;
+      unfailed : sink.faults l.sink ≡ sink.faults l.fn.sink;
+      begun : l.at ≡ 0 → l.sink ≡ l.fn.sink;
       written : sink.held l.sink ≡ append_known (sink.held l.fn.sink) (take l.at l.bytes);
     }
 

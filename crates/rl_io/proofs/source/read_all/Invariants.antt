@@ -7,7 +7,7 @@ invariant-reads g l =
     let source = g.S.Source in
     record {
       within : length l.bytes ≤ l.limit;
-      counted : source.faults l.fn.source ≤ source.faults l.source;
+      unfailed : source.faults l.source ≡ source.faults l.fn.source;
       read : source.left l.fn.source ≡ prepend_known l.bytes (source.left l.source);
     }
 
