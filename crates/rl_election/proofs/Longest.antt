@@ -1,6 +1,6 @@
 -- The longest of what was chosen on a stream. Chosen logs of two epochs both begin the later one's log, so the longer one of them
 -- begins with the other; and no epoch above all promises has a log.
-use Rattle.std.proofs.Common.{◌≡◌, ◌⊎◌, ℕ, zero, suc, ◌-◌, ◌<◌, ◌≤◌, max, [], length, true, Option, Some, None, refl, sym, ◌∙◌, ap, arith, inl, inr}
+use Rattle.std.proofs.Common.{◌≡◌, ◌⊎◌, ℕ, zero, suc, ◌-◌, ◌≤◌, max, [], length, true, Option, Some, None, refl, sym, ◌∙◌, ap, arith, inl, inr}
 use Rattle.std.proofs.lemmas.Bool.{cases_eq, cases_lt}
 use Rattle.rl_base.specs.Epochs.{owner_of}
 use Rattle.rl_base.specs.Lists.{IsPrefix}

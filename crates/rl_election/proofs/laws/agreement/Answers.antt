@@ -1,4 +1,3 @@
-use Rattle.std.proofs.Common.{◌≡◌, ◌-◌}
 use Rattle.rl_election.specs.World.{StreamWorld}
 use Rattle.rl_election.specs.StreamEvents.{streams_after}
 use Rattle.rl_election.specs.Laws.{before, at_end}

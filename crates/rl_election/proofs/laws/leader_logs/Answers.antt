@@ -1,13 +1,10 @@
-use Rattle.std.proofs.Common.{◌≡◌, ◌-◌, ℕ, Some, sym, ◌∙◌}
-use Rattle.rl_base.specs.Epochs.{owner_of}
+use Rattle.std.proofs.Common.{◌≡◌, ◌-◌}
 use Rattle.rl_base.specs.Lists.{IsPrefix}
-use Rattle.rl_paxos.specs.Leaders.{Leading}
-use Rattle.rl_paxos.specs.Logs.{Log}
-use Rattle.rl_election.specs.World.{Cluster, Role, Leads, Term, StreamWorld, initial_streams, stream_of}
+use Rattle.rl_election.specs.World.{StreamWorld, stream_of}
 use Rattle.rl_election.specs.StreamEvents.{streams_after}
 use Rattle.rl_election.specs.Chosen.{initial_log, BeganWith}
-use Rattle.rl_election.specs.Laws.{before, at_end, world_of}
-use Rattle.rl_election.proofs.Inv.{log_at, RoleOk, Inv}
+use Rattle.rl_election.specs.Laws.{at_end, world_of}
+use Rattle.rl_election.proofs.Inv.{log_at, RoleOk}
 use Rattle.rl_election.proofs.Leaders.{LeadingOk, leading_of}
 use Rattle.rl_election.proofs.Origins.{origin}
 use Rattle.rl_election.proofs.Stays.{inv_of, stretch_stays}

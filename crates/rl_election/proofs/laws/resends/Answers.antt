@@ -1,8 +1,7 @@
-use Rattle.std.proofs.Common.{◌≡◌, ◌-◌, ℕ, get_or, [], arith}
+use Rattle.std.proofs.Common.{get_or, []}
 use Rattle.rl_base.specs.Epochs.{owner_of}
-use Rattle.rl_base.proofs.Members.{In, in_contains}
-use Rattle.rl_paxos.specs.Leaders.{Leading}
-use Rattle.rl_election.specs.World.{Cluster, Prepare, Sync, Accept, Stands, Envelope, StreamWorld, stream_of}
+use Rattle.rl_base.proofs.Members.{in_contains}
+use Rattle.rl_election.specs.World.{Prepare, Sync, Accept, StreamWorld, stream_of}
 use Rattle.rl_election.specs.StreamEvents.{streams_after}
 use Rattle.rl_election.specs.Chosen.{initial_log}
 use Rattle.rl_election.specs.Laws.{world_of}
