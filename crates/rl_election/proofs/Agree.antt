@@ -10,7 +10,7 @@ use Rattle.rl_paxos.proofs.Best.{NoBetter, best_in, best_top}
 use Rattle.rl_paxos.proofs.Counting.{meet}
 use Rattle.rl_base.proofs.Members.{In}
 use Rattle.rl_election.specs.World.{Cluster, QuorumsIntersect, Message, Prepare, Promised, Sync, Accept, Ack, Envelope, Term, StreamWorld, is_stream}
-use Rattle.rl_election.specs.Chosen.{acks_at_least, has_acked}
+use Rattle.rl_election.specs.Chosen.{acks_at_least, has_acked, IsChosen}
 use Rattle.rl_election.proofs.Inv.{initial_at, log_at, WasSent, InLeaderLog, KeptOk, shown, PromiseOk, Shows, Used, TermOk, Inv}
 use Rattle.rl_election.proofs.Prefixes.{prefix_more, prefix_trans, prefix_both}
 use Rattle.rl_election.proofs.Steps.{some_same}
@@ -54,6 +54,10 @@ acked_in (m ∷ ms) e s len a h = elim (or_cases ((m.from == a) && acks_at_least
     is : (m : Envelope) → m.from ≡ a → (l : ℕ) → m.message ≡ Ack e s l → record { from = a; to = m.to; message = Ack e s l } ≡ m
     is m here l said = rw (← here, ← said) refl
 
+-- a stream's index, and its number again
+pub stream_back : (g : Cluster) (s : ℕ) → is_stream g s ≡ true → s - 1 + 1 ≡ s
+stream_back g s there = let k = leb-true 1 s (and_parts (nat_le 1 s) (nat_le s g.streams) there).0 in omega arith
+
 -- no better, whatever the nodes
 abbrev NoBetterAt : (b l c m : ℕ) → Type 0
 NoBetterAt b l c m = (b < c) ⊎ ((b ≡ c) × (l ≤ m))
@@ -64,9 +68,6 @@ lower_top b l n c m k h = elim h [ inl x ↦ inl x | inr x ↦ elim x.1 [ inl y 
 module _ (g : Cluster) (meets : QuorumsIntersect g) (w : StreamWorld) (inv : Inv g w) (e s : ℕ) (there : is_stream g s ≡ true) (t : Term) (is : w.terms e ≡ Some t) (prefix : Log) (within : IsPrefix prefix (log_at t (s - 1))) (chosen : is_quorum g.second_quorum g.nodes (has_acked w.sent e s (length prefix)) ≡ true) where
   abbrev i : ℕ
   i = s - 1
-
-  back : s - 1 + 1 ≡ s
-  back = let k = leb-true 1 s (and_parts (nat_le 1 s) (nat_le s g.streams) there).0 in omega arith
 
   born : 0 < e
   born = (inv.term_ok e t is).born
@@ -82,7 +83,7 @@ module _ (g : Cluster) (meets : QuorumsIntersect g) (w : StreamWorld) (inv : Inv
   agree zero later b less u is2 = absurd (omega arith)
   agree (suc bound) later b less u is2 =
       let ok : TermOk g w later u = inv.term_ok later u is2 in
-      from_promises (λ mid l m z k. agree bound mid l m z k) ok.promises ok.quorum ok.used (rw back at (ok.initial_is i (index_of g s there)))
+      from_promises (λ mid l m z k. agree bound mid l m z k) ok.promises ok.quorum ok.used (rw (stream_back g s there) at (ok.initial_is i (index_of g s there)))
     where
       from_promises : ((mid : ℕ) → mid < bound → e < mid → (z : Term) → w.terms mid ≡ Some z → IsPrefix prefix (initial_at z i)) → (ps : List Promise) → is_quorum g.first_quorum g.nodes (has_promised ps) ≡ true → ((p : Promise) → In p ps → Used w later p) → initial_at u i ≡ recovered ps s ++ g.open_mark later ∷ [] → IsPrefix prefix (initial_at u i)
       from_promises earlier [] quorum used first =
@@ -115,3 +116,23 @@ module _ (g : Cluster) (meets : QuorumsIntersect g) (w : StreamWorld) (inv : Inv
 
   pub agrees : (later : ℕ) → e < later → (u : Term) → w.terms later ≡ Some u → IsPrefix prefix (initial_at u i)
   agrees later less u is2 = agree (suc later) later (omega arith) less u is2
+
+no_batch : (xs : Log) → length xs ≡ 0 → xs ≡ []
+no_batch [] e = refl
+no_batch (x ∷ xs) e = absurd (omega arith)
+
+-- a chosen log is a prefix of its epoch's log
+pub chosen_within : (g : Cluster) (w : StreamWorld) (e s : ℕ) (chosen : Log) → IsChosen g w e s chosen → (t : Term) → w.terms e ≡ Some t → IsPrefix chosen (log_at t (s - 1))
+chosen_within g w e s chosen k t is =
+    let within : IsPrefix chosen (log_at k.is_log.term (s - 1)) = rw (← k.is_log.log_is) at k.within in
+    let one : k.is_log.term ≡ t = some_same k.is_log.term t (w.terms e) k.is_log.term_is is in
+    rw one at within
+
+-- and of each later initial log
+pub chosen_begins : (g : Cluster) → QuorumsIntersect g → (w : StreamWorld) → Inv g w → (e s later : ℕ) (chosen : Log) → is_stream g s ≡ true → IsChosen g w e s chosen → e < later → (u : Term) → w.terms later ≡ Some u → IsPrefix chosen (initial_at u (s - 1))
+chosen_begins g meets w inv e s later chosen there k less u is =
+    let within : IsPrefix chosen (log_at k.is_log.term (s - 1)) = chosen_within g w e s chosen k k.is_log.term k.is_log.term_is in
+    elim (or_cases (length chosen == 0) (is_quorum g.second_quorum g.nodes (has_acked w.sent e s (length chosen))) k.acked) [
+      | inl t ↦ (let none : chosen ≡ [] = no_batch chosen (eqb-true (length chosen) 0 t) in rw none (initial_at u (s - 1), refl))
+      | inr t ↦ agrees g meets w inv e s there k.is_log.term k.is_log.term_is chosen within t later less u is
+    ]

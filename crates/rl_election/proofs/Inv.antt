@@ -4,7 +4,7 @@ use Rattle.rl_base.specs.Epochs.{owner_of}
 use Rattle.rl_base.specs.Lists.{IsPrefix}
 use Rattle.rl_paxos.specs.Acceptors.{Kept, Acceptor, nothing_kept}
 use Rattle.rl_paxos.specs.Logs.{Batch, Log}
-use Rattle.rl_paxos.specs.Quorums.{is_quorum}
+use Rattle.rl_paxos.specs.Quorums.{is_node, is_quorum}
 use Rattle.rl_paxos.specs.Recovery.{Promise, Candidate, has_promised, recovered}
 use Rattle.rl_paxos.proofs.Counting.{EachOnce}
 use Rattle.rl_base.proofs.Members.{In}
@@ -79,8 +79,10 @@ pub record Used (w : StreamWorld) (e : ℕ) (p : Promise) : Type 0 where
   pub lower : (i : ℕ) → get_or p.ballots i 0 < e
 
 pub record StandsOk (g : Cluster) (w : StreamWorld) (a : ℕ) (c : Candidate) : Type 0 where
+  pub member : is_node g.nodes a ≡ true
   pub own : owner_of c.epoch g.nodes ≡ a
   pub born : 0 < c.epoch
+  pub asked : (to : ℕ) → is_node g.nodes to ≡ true → In (record { from = a; to = to; message = Prepare c.epoch }) w.sent
   pub kept : c.epoch ≤ (w.node a).acceptor.promised
   pub unborn : w.terms c.epoch ≡ None
   pub nodes_is : c.nodes ≡ g.nodes
@@ -94,6 +96,7 @@ RoleOk g w a (Stands c) = StandsOk g w a c
 RoleOk g w a (Leads e) = owner_of e g.nodes ≡ a
 
 pub record TermOk (g : Cluster) (w : StreamWorld) (e : ℕ) (t : Term) : Type 0 where
+  pub member : is_node g.nodes (owner_of e g.nodes) ≡ true
   pub born : 0 < e
   pub own : e ≤ (w.node (owner_of e g.nodes)).acceptor.promised
   pub promises : List Promise
@@ -173,8 +176,10 @@ module _ (w v : StreamWorld) (h : Grows w v) where
 
   pub stands_kept : (g : Cluster) (a : ℕ) (c : Candidate) → v.terms c.epoch ≡ None → StandsOk g w a c → StandsOk g v a c
   stands_kept g a c none k = record {
+    member = k.member;
     own = k.own;
     born = k.born;
+    asked = λ to is. h.sent (record { from = a; to = to; message = Prepare c.epoch }) (k.asked to is);
     kept = omega (arith, k.kept, (h.nodes a).promised);
     unborn = none;
     nodes_is = k.nodes_is;
@@ -188,6 +193,7 @@ module _ (w v : StreamWorld) (h : Grows w v) where
 
   pub term_kept : (g : Cluster) (e : ℕ) (t u : Term) → TermGrows t u → TermOk g w e t → TermOk g v e u
   term_kept g e t u r k = record {
+    member = k.member;
     born = k.born;
     own = omega (arith, k.own, (h.nodes (owner_of e g.nodes)).promised);
     promises = k.promises;

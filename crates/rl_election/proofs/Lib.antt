@@ -5,12 +5,15 @@
 -- by way of what only grows (`Inv`, at its end), of changes at one number (`Updates`) and of prefixes (`Prefixes`).
 -- `Agree` has the one thought: a second quorum that acked a length at an epoch and the first quorum of a later epoch share a node;
 -- the best promise is of the acked epoch, and then at least as long, or of an epoch between the two, and so by induction over the
--- epochs. `Stays` has what is said and never taken back, `Acknowledged` that each length that a leader counts was acked,
--- `Choices` that some prefix of each log is what is chosen. `Room` and `Rule` serve the candidate's code.
-pub mod Acknowledged
+-- epochs. `Stays` has what is said and never taken back, `Leaders` that each length that a leader counts was acked and that
+-- what it would send again was sent. `Choices` has that some prefix of each log is what is chosen, `Longest` the longest of these on a
+-- stream, and `Origins` where an initial log came from. `Room` and `Rule` serve the candidate's code.
 pub mod Agree
 pub mod Choices
 pub mod Inv
+pub mod Leaders
+pub mod Longest
+pub mod Origins
 pub mod Prefixes
 pub mod Room
 pub mod Rule

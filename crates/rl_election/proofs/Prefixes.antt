@@ -36,6 +36,11 @@ prefix_both (x ∷ xs) (y ∷ ys) (z ∷ zs) a b h =
 pub prefix_length : (xs ys : Log) → IsPrefix xs ys → length xs ≤ length ys
 prefix_length xs ys a = omega (arith, length-append xs a.0, ap length a.1)
 
+-- the batch behind a log
+pub get_end : (xs : Log) (y : Batch) → get_or (xs ++ y ∷ []) (length xs) [] ≡ y
+get_end [] y = refl
+get_end (x ∷ xs) y = get_end xs y
+
 -- a prefix has the same batches
 pub prefix_get : (d : Batch) (xs ys : Log) (i : ℕ) → IsPrefix xs ys → i < length xs → get_or ys i d ≡ get_or xs i d
 prefix_get d [] ys i p h = absurd (omega arith)

@@ -1,21 +1,22 @@
 -- What was said stays said: initial logs stand, and a leader's logs and what was sent only grow.
-use Rattle.std.proofs.Common.{◌≡◌, ℕ, zero, suc, ◌+◌, ◌≤◌, List, [], ◌∷◌, ◌++◌, length, Bool, true, not, ◌&&◌, ◌==◌, nat_le, Option, Some, None, refl, sym, ap, ◌∙◌, arith, inl, inr, append_assoc, append-nil}
+use Rattle.std.proofs.Common.{◌≡◌, ℕ, zero, suc, ◌+◌, ◌-◌, ◌≤◌, List, [], ◌∷◌, ◌++◌, length, Bool, true, not, ◌&&◌, ◌==◌, nat_le, Option, Some, None, refl, sym, ap, ◌∙◌, arith, inl, inr, append_assoc, append-nil}
 use Rattle.std.proofs.lemmas.Bool.{and_parts, or_cases, cond_both, true≢false, or_left, or_right, le-leb, leb-true}
 use Rattle.std.specs.Prelude.{slice_get}
 use Rattle.rl_base.specs.Lists.{IsPrefix}
 use Rattle.rl_paxos.specs.declared.refused.Refused.{Refused}
 use Rattle.rl_paxos.specs.Acceptors.{refuses, refuses_accept}
 use Rattle.rl_paxos.specs.Leaders.{Leading, with_ack, proposed}
-use Rattle.rl_paxos.specs.Logs.{Batch}
+use Rattle.rl_paxos.specs.Logs.{Batch, Log}
 use Rattle.rl_paxos.specs.Quorums.{is_node, count, is_quorum}
 use Rattle.rl_paxos.specs.Recovery.{Promise, Candidate, with_promise, has_promised}
-use Rattle.rl_election.specs.World.{Cluster, Message, Prepare, Promised, Sync, Accept, Ack, Envelope, Role, Follows, Stands, Leads, Node, Term, StreamWorld, is_up, is_stream, stream_of}
-use Rattle.rl_election.specs.StreamEvents.{StreamEvent, Elect, Deliver, Propose, Crash, Return, Lose, acts, unless_refused, may_stand, leads, stands_or_leads, receives_promise, counts_ack, receives_ack, receives, delivers, proposes_in, proposes, after_stream_event, after_stream_events}
-use Rattle.rl_election.specs.Chosen.{acks_at_least, has_acked, is_chosen_len}
+use Rattle.rl_election.specs.World.{Cluster, Message, Prepare, Promised, Sync, Accept, Ack, Envelope, Role, Follows, Stands, Leads, Node, Term, StreamWorld, initial_streams, is_up, is_stream, stream_of}
+use Rattle.rl_election.specs.StreamEvents.{StreamEvent, Elect, Deliver, Propose, Crash, Return, Lose, acts, unless_refused, may_stand, leads, stands_or_leads, receives_promise, counts_ack, receives_ack, receives, delivers, proposes_in, proposes, after_stream_event, after_stream_events, streams_after}
+use Rattle.rl_election.specs.Chosen.{acks_at_least, has_acked, is_chosen_len, IsChosen}
+use Rattle.rl_election.specs.Laws.{Stretch, before, at_end}
 use Rattle.rl_election.proofs.Prefixes.{prefix_self, prefix_trans}
 use Rattle.rl_election.proofs.Updates.{by_updated}
 use Rattle.rl_election.proofs.Inv.{log_at, RoleOk, Inv, TermGrows, term_stays}
-use Rattle.rl_election.proofs.Steps.{some_none, further_terms, event_inv}
+use Rattle.rl_election.proofs.Steps.{some_same, some_none, further_terms, event_inv, events_inv, initial_inv}
 
 pub record Stays (w v : StreamWorld) : Type 0 where
   pub terms : (e : ℕ) (t : Term) → w.terms e ≡ Some t → (u : Term) × (v.terms e ≡ Some u) × TermGrows t u
@@ -135,3 +136,23 @@ chosen_on g w v e s len st h = elim (or_cases (len == 0) (is_quorum g.second_quo
       (le-leb g.second_quorum (count (has_acked v.sent e s len) g.nodes)
       (omega (arith, leb-true g.second_quorum (count (has_acked w.sent e s len) g.nodes) t, more_count (has_acked w.sent e s len) (has_acked v.sent e s len) g.nodes (λ a k. rw (← st.sent.1) (more_acked w.sent st.sent.0 e s len a k)))))
 ]
+
+-- what is chosen at an epoch only grows
+pub chosen_grows : (g : Cluster) (w v : StreamWorld) (e s : ℕ) (chosen now : Log) → Stays w v → IsChosen g w e s chosen → IsChosen g v e s now → IsPrefix chosen now
+chosen_grows g w v e s chosen now st k h =
+    let u = st.terms e k.is_log.term k.is_log.term_is in
+    let within : IsPrefix chosen (log_at k.is_log.term (s - 1)) = rw (← k.is_log.log_is) at k.within in
+    let longer : IsPrefix chosen (log_at u.0 (s - 1)) = prefix_trans chosen (log_at k.is_log.term (s - 1)) (log_at u.0 (s - 1)) within (u.2.logs (s - 1)) in
+    let one : u.0 ≡ h.is_log.term = some_same u.0 h.is_log.term (v.terms e) u.1 h.is_log.term_is in
+    let there : IsPrefix chosen (log_at h.is_log.term (s - 1)) = rw one at longer in
+    let there2 : IsPrefix chosen h.log = rw h.is_log.log_is at there in
+    h.longest chosen there2 (chosen_on g w v e s (length chosen) st k.acked)
+
+-- ---- after any list of events ----
+
+pub inv_of : (g : Cluster) (events : List StreamEvent) → Inv g (streams_after g events)
+inv_of g events = events_inv g events (initial_streams g) (initial_inv g)
+
+-- what was said before further events is said after them
+pub stretch_stays : (run : Stretch) → Stays (before run) (at_end run)
+stretch_stays run = rw (events-append run.cluster run.events run.more (initial_streams run.cluster)) (events_stay run.cluster run.more (before run) (inv_of run.cluster run.events))

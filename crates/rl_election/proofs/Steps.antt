@@ -14,11 +14,11 @@ use Rattle.rl_paxos.specs.Quorums.{is_node, count, is_quorum}
 use Rattle.rl_paxos.specs.Recovery.{Promise, Candidate, new_candidate, with_promise, has_promised, recovered, recovered_logs}
 use Rattle.rl_paxos.proofs.Counting.{none, counted_once}
 use Rattle.rl_base.proofs.Members.{In}
-use Rattle.rl_paxos.proofs.Members.{in_prefix, in_split}
+use Rattle.rl_paxos.proofs.Members.{in_prefix, in_suffix, in_split}
 use Rattle.rl_election.specs.World.{Cluster, Message, Prepare, Promised, Sync, Accept, Ack, Envelope, State, Lost, Role, Follows, Stands, Leads, Node, Term, StreamWorld, to_all, initial_streams, is_up, is_stream, stream_of, with_stream}
 use Rattle.rl_election.specs.StreamEvents.{StreamEvent, Elect, Deliver, Propose, Crash, Return, Lose, updated, acts, unless_refused, may_stand, stands_for, answers, promise_message, ack_message, initial_logs, syncs, leads, stands_or_leads, receives_promise, counts_ack, receives_ack, receives, delivers, proposes_in, proposes, crashed, returned, after_stream_event, after_stream_events}
-use Rattle.rl_election.proofs.Prefixes.{prefix_self, prefix_more, prefix_trans, prefix_next}
-use Rattle.rl_election.proofs.Updates.{by_updated, updated_same, updated_other, index_of, with_kept_here, with_kept_other, shown_is, to_all_in, syncs_in, get_in, length-recovered, get_or-recovered, new_logs, log_other, log_here}
+use Rattle.rl_election.proofs.Prefixes.{prefix_self, prefix_more, prefix_trans, prefix_next, get_end}
+use Rattle.rl_election.proofs.Updates.{by_updated, updated_same, updated_other, index_of, with_kept_here, with_kept_other, shown_is, to_all_in, to_all_has, syncs_in, get_in, length-recovered, get_or-recovered, new_logs, log_other, log_here}
 use Rattle.rl_election.proofs.Inv.{kept_at, initial_at, log_at, WasSent, InLeaderLog, KeptOk, AcceptorOk, shown, PromiseOk, AcceptOk, AckOk, MessageOk, Shows, Used, StandsOk, RoleOk, TermOk, Inv, TermGrows, AcceptorGrows, Grows, leader_log_kept, kept_kept, used_kept, message_kept, stands_kept, acceptor_kept, term_kept, acceptor_stays, term_stays}
 
 -- neither a promise nor an ack
@@ -116,8 +116,8 @@ module _ (g : Cluster) (w : StreamWorld) (inv : Inv g w) where
   }
 
   -- ---- an election ----
-  stand_inv : (a e : ℕ) → owner_of e g.nodes ≡ a → (w.node a).acceptor.promised < e → Inv g (acts w a (record (w.node a) { acceptor = prepared (w.node a).acceptor e; role = Stands (new_candidate e g.nodes g.streams g.first_quorum) }) (to_all g.nodes a (Prepare e)))
-  stand_inv a e own above =
+  stand_inv : (a e : ℕ) → is_node g.nodes a ≡ true → owner_of e g.nodes ≡ a → (w.node a).acceptor.promised < e → Inv g (acts w a (record (w.node a) { acceptor = prepared (w.node a).acceptor e; role = Stands (new_candidate e g.nodes g.streams g.first_quorum) }) (to_all g.nodes a (Prepare e)))
+  stand_inv a e member own above =
       let up : (w.node a).acceptor.promised ≤ e = omega arith in
       let x : Node = record { state = (w.node a).state; acceptor = prepared (w.node a).acceptor e; role = Stands (new_candidate e g.nodes g.streams g.first_quorum) } in
       let ms : List Envelope = to_all g.nodes a (Prepare e) in
@@ -126,8 +126,10 @@ module _ (g : Cluster) (w : StreamWorld) (inv : Inv g w) where
       let prepares : (m : Envelope) → In m ms → m.message ≡ Prepare e = λ m i. (to_all_in g.nodes a (Prepare e) m i).1 in
       done_inv a x ms acc (raised_ok v (done_grows a x ms acc) a e up)
       (record {
+        member = member;
         own = own;
         born = omega arith;
+        asked = λ to is. in_suffix w.sent ms (record { from = a; to = to; message = Prepare e }) (to_all_has g.nodes a to (Prepare e) is);
         kept = rw (updated_same w.node a x) (omega arith);
         unborn = unborn (w.terms e) refl;
         nodes_is = refl;
@@ -147,7 +149,7 @@ module _ (g : Cluster) (w : StreamWorld) (inv : Inv g w) where
       (λ h. let k = and_parts (is_up (w.node a).state) (is_node g.nodes a && ((owner_of e g.nodes == a) && nat_lt (w.node a).acceptor.promised e)) h in
       let l = and_parts (is_node g.nodes a) ((owner_of e g.nodes == a) && nat_lt (w.node a).acceptor.promised e) k.1 in
       let r = and_parts (owner_of e g.nodes == a) (nat_lt (w.node a).acceptor.promised e) l.1 in
-      stand_inv a e (eqb-true (owner_of e g.nodes) a r.0) (ltb-true (w.node a).acceptor.promised e r.1))
+      stand_inv a e l.0 (eqb-true (owner_of e g.nodes) a r.0) (ltb-true (w.node a).acceptor.promised e r.1))
       (λ h. inv)
 
   -- ---- a promise is made ----
@@ -313,8 +315,10 @@ module _ (g : Cluster) (w : StreamWorld) (inv : Inv g w) where
       (λ t. let q = and_parts (is_node c.nodes p.node) (not (has_promised c.promises p.node)) t in
       let node : is_node g.nodes p.node ≡ true = rw k.nodes_is at q.0 in
       record {
+        member = k.member;
         own = k.own;
         born = k.born;
+        asked = k.asked;
         kept = k.kept;
         unborn = k.unborn;
         nodes_is = k.nodes_is;
@@ -365,6 +369,7 @@ module _ (g : Cluster) (w : StreamWorld) (inv : Inv g w) where
 
     led_ok : TermOk g led_world c.epoch led_term
     led_ok = record {
+      member = rw k.own k.member;
       born = k.born;
       own = rw k.own (omega (arith, k.kept, (led_grows.nodes a).promised));
       promises = c.promises;
@@ -523,10 +528,6 @@ module _ (g : Cluster) (w : StreamWorld) (inv : Inv g w) where
       later_inv e s t is there y grown a own led (updated w.node a (w.node a)) (λ b. by_updated (λ z. z ≡ w.node b) w.node a (w.node a) b (λ i. rw i refl) (λ m. refl)) ms
       (λ m i. rw (to_all_in g.nodes a message m i).1 tt)
       (λ m i. rw (to_all_in g.nodes a message m i).1 fact)
-    where
-      get_end : (xs : Log) (y : Batch) → get_or (xs ++ y ∷ []) (length xs) [] ≡ y
-      get_end [] y = refl
-      get_end (x ∷ xs) y = get_end xs y
 
   proposes_inv : (a s : ℕ) (batch : Batch) (r : Role) → (w.node a).role ≡ r → RoleOk g w a r → Inv g (proposes g w a s batch r)
   proposes_inv a s batch Follows is ok = inv

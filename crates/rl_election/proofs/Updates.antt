@@ -1,5 +1,5 @@
 -- Changes at one place of a function or a list, and what is sent to all.
-use Rattle.std.proofs.Common.{◌≡◌, ◌≢◌, ℕ, zero, suc, ◌+◌, ◌-◌, ◌<◌, List, [], ◌∷◌, ◌++◌, length, map, get_or, true, nat_le, Some, None, refl, ap, ◌∙◌, arith, inl, inr, eq-eqb, ne_eqb, length-append, get_or-set_same, get_or-set_other}
+use Rattle.std.proofs.Common.{◌≡◌, ◌≢◌, ℕ, zero, suc, ◌+◌, ◌-◌, ◌<◌, ◌≤◌, List, [], ◌∷◌, ◌++◌, length, map, get_or, true, nat_le, Some, None, refl, ap, ◌∙◌, arith, inl, inr, eq-eqb, ne_eqb, length-append, get_or-set_same, get_or-set_other}
 use Rattle.std.proofs.lemmas.Bool.{cases_eq, and_parts, leb-true}
 use Rattle.std.specs.Prelude.{slice_get}
 use Rattle.rl_paxos.specs.Acceptors.{Kept, Acceptor, nothing_kept, with_kept}
@@ -7,7 +7,9 @@ use Rattle.rl_paxos.specs.Leaders.{Leading, new_leading}
 use Rattle.rl_paxos.specs.Logs.{Log}
 use Rattle.rl_paxos.specs.Recovery.{Promise, recovered, recovered_logs}
 use Rattle.rl_base.proofs.Members.{In}
-use Rattle.rl_paxos.proofs.Members.{in_split}
+use Rattle.rl_paxos.specs.Quorums.{is_node}
+use Rattle.rl_paxos.proofs.Counting.{node_is, is_node_low, is_node_high}
+use Rattle.rl_paxos.proofs.Members.{in_prefix, in_suffix, in_split}
 use Rattle.rl_election.specs.World.{Cluster, Message, Sync, Envelope, Term, to_all, is_stream, no_stream, with_stream}
 use Rattle.rl_election.specs.StreamEvents.{syncs, updated}
 use Rattle.rl_election.proofs.Inv.{kept_at, shown, log_at}
@@ -39,6 +41,29 @@ shown_is (x ∷ xs) zero = refl
 shown_is (x ∷ xs) (suc i) = shown_is xs i
 
 -- ---- what is sent ----
+
+-- each node is sent what is sent to all
+pub to_all_has : (n from to : ℕ) (message : Message) → is_node n to ≡ true → In (record { from = from; to = to; message = message }) (to_all n from message)
+to_all_has zero from to message is = absurd (omega (arith, is_node_low 0 to is, is_node_high 0 to is))
+to_all_has (suc n) from to message is =
+    let last : List Envelope = record { from = from; to = suc n; message = message } ∷ [] in
+    elim (cases_eq to (suc n)) [
+      | inl e ↦ rw e (in_suffix (to_all n from message) last (record { from = from; to = suc n; message = message }) (inl refl))
+      | inr m ↦ in_prefix (to_all n from message) last (record { from = from; to = to; message = message })
+          (to_all_has n from to message (node_is n to (is_node_low (suc n) to is) (omega (arith, m, is_node_high (suc n) to is))))
+    ]
+
+-- and is sent the Sync of each stream
+pub syncs_has : (g : Cluster) (a e : ℕ) (logs : List Log) (n s to : ℕ) → 1 ≤ s → s ≤ n → is_node g.nodes to ≡ true → In (record { from = a; to = to; message = Sync e s (get_or logs (s - 1) []) }) (syncs g a e logs n)
+syncs_has g a e logs zero s to low high is = absurd (omega arith)
+syncs_has g a e logs (suc n) s to low high is =
+    let last : List Envelope = to_all g.nodes a (Sync e (suc n) (get_or logs n [])) in
+    elim (cases_eq s (suc n)) [
+      | inl q ↦ (
+          let at : suc n - 1 ≡ n = omega arith in
+          rw (q, at) (in_suffix (syncs g a e logs n) last (record { from = a; to = to; message = Sync e (suc n) (get_or logs n []) }) (to_all_has g.nodes a to (Sync e (suc n) (get_or logs n [])) is)))
+      | inr m ↦ in_prefix (syncs g a e logs n) last (record { from = a; to = to; message = Sync e s (get_or logs (s - 1) []) }) (syncs_has g a e logs n s to low (omega (arith, m)) is)
+    ]
 
 pub to_all_in : (n from : ℕ) (message : Message) (m : Envelope) → In m (to_all n from message) → (m.from ≡ from) × (m.message ≡ message)
 to_all_in zero from message m i = absurd i

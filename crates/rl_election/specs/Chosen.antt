@@ -1,5 +1,5 @@
 -- What was chosen, and with what a leader began.
-use Rattle.std.specs.Prelude.{◌≡◌, ℕ, ◌-◌, List, [], length, Bool, false, ◌&&◌, ◌||◌, ◌==◌, nat_le, IsTrue, Some, slice_index_or}
+use Rattle.std.specs.Prelude.{◌≡◌, ◌⊎◌, ℕ, ◌-◌, ◌<◌, List, [], ◌∷◌, ◌++◌, length, Bool, false, ◌&&◌, ◌||◌, ◌==◌, nat_le, IsTrue, Some, slice_index_or}
 use Rattle.std.specs.List.{list_any}
 use Rattle.rl_base.specs.Lists.{IsPrefix}
 use Rattle.rl_paxos.specs.Leaders.{Leading}
@@ -53,8 +53,33 @@ pub record IsAdopted (w : StreamWorld) (epoch s : ℕ) (adopted : Log) : Type 0 
   pub begins : IsPrefix initial adopted
   pub within : IsPrefix adopted log
 
+-- a log was adopted at an earlier epoch
+pub record IsFromEarlier (w : StreamWorld) (epoch s : ℕ) (log : Log) : Type 0 where
+  pub earlier : ℕ
+  pub is_earlier : earlier < epoch
+  pub is_adopted : IsAdopted w earlier s log
+
+-- where an initial log came from: it is a log that was adopted at an earlier epoch, or nothing, and then the open mark
+pub record HasOrigin (g : Cluster) (w : StreamWorld) (epoch s : ℕ) (initial : Log) : Type 0 where
+  pub carried : Log
+  pub initial_is : initial ≡ carried ++ g.open_mark epoch ∷ []
+  pub from : (carried ≡ []) ⊎ IsFromEarlier w epoch s carried
+
+-- the longest of what was chosen on a stream at any epoch: nothing, or what one epoch chose; all else that was chosen begins it
+pub record IsLongestChosen (g : Cluster) (w : StreamWorld) (s : ℕ) (longest : Log) : Type 0 where
+  pub from : (longest ≡ []) ⊎ ((epoch : ℕ) × IsChosen g w epoch s longest)
+  pub above : (epoch : ℕ) (chosen : Log) → IsChosen g w epoch s chosen → IsPrefix chosen longest
+
 -- a stream of an epoch's one leader, as it stands or last stood
 pub record IsLeading (w : StreamWorld) (epoch s : ℕ) (stream : Leading) : Type 0 where
   pub term : Term
   pub term_is : w.terms epoch ≡ Some term
   pub stream_is : stream_of term s ≡ stream
+
+-- a stream of the leader of an epoch: it is of that epoch and of the cluster, and its log begins with the initial log
+pub record BeganWith (g : Cluster) (epoch : ℕ) (initial : Log) (stream : Leading) : Type 0 where
+  pub epoch_is : stream.epoch ≡ epoch
+  pub quorum_is : stream.quorum ≡ g.second_quorum
+  pub nodes_are : length stream.acked ≡ g.nodes
+  pub initial_len_is : stream.initial_len ≡ length initial
+  pub begins : IsPrefix initial stream.log

@@ -1,14 +1,17 @@
 -- What is true of streams after any events, whatever is sent, lost, sent again or delayed, and whichever nodes crash, return
 -- or are lost.
-use Rattle.std.specs.Prelude.{◌≡◌, ℕ, List, [], ◌∷◌, ◌++◌, ◌<◌, ◌≤◌, take, IsTrue}
+use Rattle.std.specs.Prelude.{◌≡◌, ℕ, List, [], ◌∷◌, ◌++◌, ◌<◌, ◌≤◌, length, take, slice_index_or, IsTrue, Contains}
+use Rattle.rl_base.specs.Epochs.{owner_of}
 use Rattle.rl_base.specs.Lists.{IsPrefix}
 use Rattle.rl_paxos.specs.Acceptors.{Acceptor, kept_ballot, kept_log}
 use Rattle.rl_paxos.specs.Leaders.{Leading, IsAcknowledged}
 use Rattle.rl_paxos.specs.Logs.{Batch, Log}
-use Rattle.rl_election.specs.World.{Cluster, QuorumsIntersect, is_stream, StreamWorld}
+use Rattle.rl_paxos.specs.Quorums.{is_node}
+use Rattle.rl_paxos.specs.Recovery.{Candidate}
+use Rattle.rl_election.specs.World.{Cluster, QuorumsIntersect, is_stream, Message, Prepare, Sync, Accept, Stands, Leads, StreamWorld}
 use Rattle.rl_election.specs.StreamEvents.{StreamEvent, streams_after}
-use Rattle.rl_election.specs.Chosen.{IsInitialLog, IsLeaderLog, IsChosen, IsAdopted, IsLeading}
-use Rattle.rl_election.specs.Example.{three_nodes, one_election}
+use Rattle.rl_election.specs.Chosen.{IsInitialLog, IsLeaderLog, IsChosen, IsAdopted, HasOrigin, IsLongestChosen, IsLeading, BeganWith}
+use Rattle.rl_election.specs.Example.{three_nodes, one_election, two_elections}
 
 -- ---- agreement ----
 
@@ -91,6 +94,82 @@ NoneAtBallotZero = (x : AtNode) → ballot_at x ≡ 0 → log_at x ≡ []
 abbrev pub BallotsBelowPromise : Type 0
 BallotsBelowPromise = (x : AtNode) → ballot_at x ≤ (acceptor_at x).promised
 
+-- ---- the logs of leaders ----
+
+-- a stream of an epoch's one leader, after some events of a cluster
+pub record AtLeader : Type 0 where
+  pub cluster : Cluster
+  pub events : List StreamEvent
+  pub epoch : ℕ
+  pub stream : ℕ
+  pub in_cluster : IsTrue (is_stream cluster stream)
+
+-- the world then
+abbrev pub world_of : AtLeader → StreamWorld
+world_of x = streams_after x.cluster x.events
+
+-- an initial log is a log that was adopted at an earlier epoch, or nothing, and then the open mark
+abbrev pub InitialLogsHaveOrigins : Type 0
+InitialLogsHaveOrigins = (x : AtLeader) (initial : Log)
+    → IsInitialLog (world_of x) x.epoch x.stream initial → HasOrigin x.cluster (world_of x) x.epoch x.stream initial
+
+-- the log of a leader begins with its initial log
+abbrev pub LeadersBeganWithInitialLogs : Type 0
+LeadersBeganWithInitialLogs = (x : AtLeader) (initial : Log) (stream : Leading)
+    → IsInitialLog (world_of x) x.epoch x.stream initial → IsLeading (world_of x) x.epoch x.stream stream
+    → BeganWith x.cluster x.epoch initial stream
+
+-- and only grows
+abbrev pub LeaderLogsGrow : Type 0
+LeaderLogsGrow = (run : Stretch) (epoch s : ℕ) (log now : Log)
+    → IsLeaderLog (before run) epoch s log → IsLeaderLog (at_end run) epoch s now → IsPrefix log now
+
+-- a node that leads an epoch is its owner
+abbrev pub OwnersLead : Type 0
+OwnersLead = (g : Cluster) (events : List StreamEvent) (a epoch : ℕ)
+    → ((streams_after g events).node a).role ≡ Leads epoch → owner_of epoch g.nodes ≡ a
+
+-- ---- what is sent again ----
+
+-- a message was sent
+abbrev pub WasSent : StreamWorld → (from to : ℕ) → Message → Type 0
+WasSent w from to message = Contains w.sent (record { from = from; to = to; message = message })
+
+-- a node that stands for an epoch, and one that it asks
+pub record StandsAndAsks (g : Cluster) (w : StreamWorld) : Type 0 where
+  pub node : ℕ
+  pub candidate : Candidate
+  pub to : ℕ
+  pub stands : (w.node node).role ≡ Stands candidate
+  pub is_receiver : IsTrue (is_node g.nodes to)
+
+-- the Prepare of a candidate was sent to each node
+abbrev pub PreparesWereSent : Type 0
+PreparesWereSent = (g : Cluster) (events : List StreamEvent) (x : StandsAndAsks g (streams_after g events))
+    → WasSent (streams_after g events) x.node x.to (Prepare x.candidate.epoch)
+
+-- the initial log of a leader was sent to each node
+abbrev pub SyncsWereSent : Type 0
+SyncsWereSent = (x : AtLeader) (initial : Log) (to : ℕ)
+    → IsInitialLog (world_of x) x.epoch x.stream initial → IsTrue (is_node x.cluster.nodes to)
+    → WasSent (world_of x) (owner_of x.epoch x.cluster.nodes) to (Sync x.epoch x.stream initial)
+
+-- a slot behind the initial log of a leader, and a node to which it sends
+pub record SlotAndReceiver (x : AtLeader) : Type 0 where
+  pub stream : Leading
+  pub slot : ℕ
+  pub to : ℕ
+  pub is_leading : IsLeading (world_of x) x.epoch x.stream stream
+  pub behind : stream.initial_len ≤ slot
+  pub within : slot < length stream.log
+  pub is_receiver : IsTrue (is_node x.cluster.nodes to)
+
+-- the batch of each such slot was sent to each node
+abbrev pub AcceptsWereSent : Type 0
+AcceptsWereSent = (x : AtLeader) (r : SlotAndReceiver x)
+    → WasSent (world_of x) (owner_of x.epoch x.cluster.nodes) r.to
+    (Accept x.epoch x.stream r.slot (slice_index_or r.stream.log r.slot []))
+
 -- ---- acknowledged lengths ----
 
 -- a stream at an epoch's leader, the length that it counts as acknowledged, and what is chosen at the epoch
@@ -120,8 +199,26 @@ SomeLog P = (log : Log) × P log
 abbrev pub SomeIsChosen : Type 0
 SomeIsChosen = (g : Cluster) (w : StreamWorld) (epoch s : ℕ) → SomeLog (IsLeaderLog w epoch s) → SomeLog (IsChosen g w epoch s)
 
+-- on each stream some log is the longest that was chosen, and all that was chosen begins it
+abbrev pub SomeIsLongest : Type 0
+SomeIsLongest = (g : Cluster) (events : List StreamEvent) → QuorumsIntersect g
+    → (s : ℕ) → IsTrue (is_stream g s) → SomeLog (IsLongestChosen g (streams_after g events) s)
+
+-- the longest only grows
+abbrev pub LongestGrows : Type 0
+LongestGrows = (run : Stretch) (s : ℕ) (longest now : Log)
+    → IsLongestChosen run.cluster (before run) s longest → IsLongestChosen run.cluster (at_end run) s now
+    → IsPrefix longest now
+
 -- after the run of the example its proposal is chosen, behind the open mark
 abbrev pub ProposalIsChosen : Type 0
 ProposalIsChosen = (open_mark : ℕ → Batch) (batch : Batch)
     → IsChosen (three_nodes open_mark) (streams_after (three_nodes open_mark) (one_election batch)) 1 1
     (open_mark 1 ∷ batch ∷ [])
+
+-- after the run with two elections the first leader's proposal is still chosen, and the second one's initial log carries it
+abbrev pub ProposalIsCarried : Type 0
+ProposalIsCarried = (open_mark : ℕ → Batch) (batch : Batch)
+    → let g : Cluster = three_nodes open_mark in
+    let w : StreamWorld = streams_after g (two_elections batch) in
+    IsChosen g w 1 1 (open_mark 1 ∷ batch ∷ []) × IsInitialLog w 2 1 (open_mark 1 ∷ batch ∷ open_mark 2 ∷ [])

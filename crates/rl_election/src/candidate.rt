@@ -106,10 +106,17 @@ impl Candidate {
     }
 
     /// How many nodes have promised.
-    fn have(&self) -> u32
+    pub fn have(&self) -> u32
         ensures { result ≡ length self.now.promises }
     {
         self.promises.len() as u32
+    }
+
+    /// Whether a node has promised.
+    pub fn has_promised(&self, node: u32) -> bool
+        ensures { result ≡ has_promised self.now.promises node }
+    {
+        self.promises.iter().any(|p| p.node() == node)
     }
 
     /// Whether a number is that of a node which has not promised.
@@ -117,13 +124,6 @@ impl Candidate {
         ensures { result ≡ (is_node self.now.nodes node && not (has_promised self.now.promises node)) }
     {
         1 <= node && node <= self.nodes && !self.has_promised(node)
-    }
-
-    /// Whether a node has promised.
-    fn has_promised(&self, node: u32) -> bool
-        ensures { result ≡ has_promised self.now.promises node }
-    {
-        self.promises.iter().any(|p| p.node() == node)
     }
 
     /// The recovered logs.

@@ -1,7 +1,7 @@
 //! Laws of streams alone, whatever is sent, lost, sent again or delayed, and whichever nodes crash, return or are lost: the
 //! contract of each function is the law.
 
-ghost use Rattle.rl_election.specs.Laws.{LaterLogsBeginChosen, InitialLogsStand, ChosenGrows, KeptIsAdopted, NoneAtBallotZero, BallotsBelowPromise, AcknowledgedIsChosen, SomeIsChosen, ProposalIsChosen};
+ghost use Rattle.rl_election.specs.Laws.{LaterLogsBeginChosen, InitialLogsStand, ChosenGrows, KeptIsAdopted, NoneAtBallotZero, BallotsBelowPromise, InitialLogsHaveOrigins, LeadersBeganWithInitialLogs, LeaderLogsGrow, OwnersLead, PreparesWereSent, SyncsWereSent, AcceptsWereSent, AcknowledgedIsChosen, SomeIsChosen, SomeIsLongest, LongestGrows, ProposalIsChosen, ProposalIsCarried};
 
 /// After any list of events, what is chosen at an epoch is a prefix of the initial log of each later epoch that has one.
 /// An initial log stands once it is made, so this holds when it is made and at every later moment.
@@ -19,13 +19,39 @@ pub fn adoption()
     ensures below { BallotsBelowPromise }
 {}
 
+/// After any list of events, an initial log is a log that was adopted at an earlier epoch, or nothing, and then the open
+/// mark. The log of a leader begins with its initial log and only grows, and a leader owns its epoch.
+pub fn leader_logs()
+    ensures origins { InitialLogsHaveOrigins }
+    ensures began { LeadersBeganWithInitialLogs }
+    ensures grow { LeaderLogsGrow }
+    ensures owners { OwnersLead }
+{}
+
+/// After any list of events, what a candidate or a leader would send again was sent before: the Prepare of a candidate, a
+/// leader's initial logs, and each batch behind them, to each node.
+pub fn resends()
+    ensures prepares { PreparesWereSent }
+    ensures syncs { SyncsWereSent }
+    ensures accepts { AcceptsWereSent }
+{}
+
 /// After any list of events, what a leader counts as acknowledged is a prefix of what is chosen at its epoch.
 pub fn leading()
     ensures { AcknowledgedIsChosen }
 {}
 
-/// Wherever an epoch has a log, some prefix of it is what is chosen; and there is a run in which a proposal is chosen.
+/// Wherever an epoch has a log, some prefix of it is what is chosen; and there is a run in which a proposal is chosen, and
+/// one in which a second leader begins with it.
 pub fn choices()
     ensures there { SomeIsChosen }
     ensures proposal { ProposalIsChosen }
+    ensures carried { ProposalIsCarried }
+{}
+
+/// After any list of events, one chosen log of each stream is the longest: it begins with all that was ever chosen on that
+/// stream, at whatever epoch, and only grows.
+pub fn longest()
+    ensures there { SomeIsLongest }
+    ensures grows { LongestGrows }
 {}

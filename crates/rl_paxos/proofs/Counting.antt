@@ -4,7 +4,7 @@ use Rattle.std.proofs.lemmas.Bool.{leb-true, cases_eq, and_parts, cond_both}
 use Rattle.rl_paxos.specs.Quorums.{is_node, count, is_quorum}
 use Rattle.rl_paxos.specs.Recovery.{Promise, has_promised}
 
-node_is : (n a : ℕ) → 1 ≤ a → a ≤ n → is_node n a ≡ true
+pub node_is : (n a : ℕ) → 1 ≤ a → a ≤ n → is_node n a ≡ true
 node_is n a low high = rw (le-leb 1 a low, le-leb a n high) refl
 
 -- by how many pass the one and the other test

@@ -1,3 +1,5 @@
+pub mod Acknowledged
 pub mod Best
 pub mod Counting
+pub mod Least
 pub mod Members

@@ -1,6 +1,6 @@
 -- What is true of recovered logs, of quorums and of acknowledged lengths.
-use Rattle.std.specs.Prelude.{◌≡◌, ℕ, ◌+◌, ◌<◌, Bool, List, ◌∷◌, IsTrue}
-use Rattle.rl_paxos.specs.Leaders.{IsAcknowledged}
+use Rattle.std.specs.Prelude.{◌≡◌, ℕ, ◌+◌, ◌<◌, ◌≤◌, Bool, List, ◌∷◌, length, IsTrue}
+use Rattle.rl_paxos.specs.Leaders.{acknowledged_len, IsAcknowledged}
 use Rattle.rl_paxos.specs.Quorums.{is_node, is_quorum}
 use Rattle.rl_paxos.specs.Recovery.{Promise, recovered, IsRecovered}
 
@@ -26,3 +26,8 @@ QuorumsShareANode = (promised acked : ℕ → Bool) (q : TwoQuorums promised ack
 abbrev pub OneIsAcknowledged : Type 0
 OneIsAcknowledged = (quorum : ℕ) (acked : List ℕ) (len more : ℕ)
     → IsAcknowledged quorum acked len → IsAcknowledged quorum acked more → len ≡ more
+
+-- of a quorum that is some of the nodes, the acknowledged length is the greatest that the quorum has acked
+abbrev pub TheGreatestIsAcknowledged : Type 0
+TheGreatestIsAcknowledged = (quorum : ℕ) (acked : List ℕ) → 1 ≤ quorum → quorum ≤ length acked
+    → IsAcknowledged quorum acked (acknowledged_len quorum acked)

@@ -35,7 +35,18 @@ with_ack x node len =
 abbrev pub acked_count : List ℕ → (len : ℕ) → ℕ
 acked_count acked len = count_by (λ a. nat_le len a) acked
 
--- the acknowledged length: the greatest that a quorum has acked
+-- the greatest of some lengths that a quorum has acked, or 0
+abbrev pub greatest_acked : (quorum : ℕ) (acked lens : List ℕ) → ℕ
+greatest_acked quorum acked [] = 0
+greatest_acked quorum acked (len ∷ lens) =
+    if nat_le quorum (acked_count acked len) then max len (greatest_acked quorum acked lens)
+    else greatest_acked quorum acked lens
+
+-- the acknowledged length: the greatest of the acked lengths that a quorum has acked
+abbrev pub acknowledged_len : (quorum : ℕ) (acked : List ℕ) → ℕ
+acknowledged_len quorum acked = greatest_acked quorum acked acked
+
+-- the acknowledged length in full: of all lengths the greatest that a quorum has acked
 pub record IsAcknowledged (quorum : ℕ) (acked : List ℕ) (len : ℕ) : Type 0 where
   pub quorum_has : quorum ≤ acked_count acked len
   pub greatest : (more : ℕ) → quorum ≤ acked_count acked more → more ≤ len

@@ -1,6 +1,6 @@
 //! Laws of the definitions: the contract of each function is the law.
 
-ghost use Rattle.rl_paxos.specs.Laws.{TheBestIsRecovered, QuorumsShareANode, OneIsAcknowledged};
+ghost use Rattle.rl_paxos.specs.Laws.{TheBestIsRecovered, QuorumsShareANode, OneIsAcknowledged, TheGreatestIsAcknowledged};
 
 /// What is recovered is the longest of the logs of the highest ballot, and of equally long ones the least node's.
 pub fn recovers()
@@ -15,4 +15,9 @@ pub fn quorums_intersect()
 /// A quorum has acknowledged one length.
 pub fn one_acknowledged_length()
     ensures { OneIsAcknowledged }
+{}
+
+/// The acknowledged length, as it is computed, is the greatest that a quorum of some of the nodes has acked.
+pub fn acknowledges()
+    ensures { TheGreatestIsAcknowledged }
 {}

@@ -1,7 +1,7 @@
 //! A stream at its leader.
 
 ghost use Rattle.std.specs.Prelude.{◌≡◌, ℕ, ◌<◌, ◌≤◌, ◌↔◌, length, OnOk, OnErr, IfOk, IsErrOf};
-ghost use Rattle.rl_paxos.specs.Leaders.{new_leading, proposed, with_ack, acked_len, IsAcknowledged};
+ghost use Rattle.rl_paxos.specs.Leaders.{new_leading, proposed, with_ack, acked_len, acknowledged_len, IsAcknowledged};
 ghost use Rattle.rl_stream.specs.Resends.{resend_of};
 
 use crate::acknowledged::acknowledged_len;
@@ -37,7 +37,7 @@ impl Model for LeaderStream {
       acked = a.acked.items;
     } };
 
-    ghost invariant = { λ a. StreamFits a.quorum a.acknowledged a.log a.acked.items };
+    ghost invariant = { λ a. StreamFits a.quorum a.initial_len a.acknowledged a.log a.acked.items };
 }
 
 /// What is to be sent again to a node.
@@ -101,6 +101,7 @@ impl LeaderStream {
         requires { len ≤ length self.old.log }
         ensures counted { self.new ≡ with_ack self.old node len }
         ensures acknowledged { IsAcknowledged self.new.quorum self.new.acked result }
+        ensures value { result ≡ acknowledged_len self.new.quorum self.new.acked }
         ensures within { result ≤ length self.new.log }
         ensures short { result ≤ SLOTS }
     {
@@ -116,6 +117,7 @@ impl LeaderStream {
     /// The greatest length that a quorum has acked.
     pub fn chosen_len(&self) -> u32
         ensures acknowledged { IsAcknowledged self.now.quorum self.now.acked result }
+        ensures value { result ≡ acknowledged_len self.now.quorum self.now.acked }
         ensures within { result ≤ length self.now.log }
         ensures short { result ≤ SLOTS }
     {
@@ -139,6 +141,15 @@ impl LeaderStream {
         ensures { result ≡ self.now.epoch }
     {
         self.epoch
+    }
+
+    /// How many batches the initial log has.
+    pub fn initial_len(&self) -> u32
+        ensures initial_len { result ≡ self.now.initial_len }
+        ensures within { result ≤ length self.now.log }
+        ensures short { result ≤ SLOTS }
+    {
+        self.initial_len
     }
 
     /// The log.

@@ -13,3 +13,15 @@ returns-clause-proposal c = λ open_mark batch. record {
   acked = refl;
   longest = λ longer p h. p;
 }
+
+pub returns-clause-carried : goal.returns-clause-carried
+returns-clause-carried c = λ open_mark batch. (
+  record {
+    log = open_mark 1 ∷ batch ∷ [];
+    is_log = record { term = _; term_is = refl; log_is = refl };
+    within = ([], refl);
+    acked = refl;
+    longest = λ longer p h. p;
+  },
+  record { term = _; term_is = refl; initial_is = refl },
+)

@@ -1,5 +1,5 @@
 use Rattle.std.proofs.Common.{arith}
-use Rattle.rl_stream.proofs.Least.{all_reach, none_above}
+use Rattle.rl_paxos.proofs.Least.{all_reach, none_above}
 use Rattle.rl_stream.proofs.acknowledged.acknowledged_len.Goals as goal
 
 pub loop-len-init : goal.loop-len-init

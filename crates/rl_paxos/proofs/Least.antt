@@ -4,8 +4,6 @@ use Rattle.std.proofs.lemmas.Bool.{cases_lt, lt-leb}
 use Rattle.std.proofs.lemmas.List.Elements.{All-get_or}
 use Rattle.std.proofs.lemmas.List.Sums.{sum_by-cons}
 use Rattle.rl_paxos.specs.Leaders.{acked_count}
-use Rattle.rl_paxos.specs.Logs.{Log}
-use Rattle.rl_stream.specs.StreamFits.{StreamFits}
 
 -- whether a length was acked, as a number
 abbrev one_if : ℕ → ℕ → ℕ
@@ -103,7 +101,3 @@ reached_within xs m top each h =
     let r = least xs m h in
     let t : get_or xs r.place 0 ≤ top = All-get_or (λ a. a ≤ top) xs r.place 0 r.inside each in
     omega (arith, t, r.above)
-
--- the acknowledged length is within the log
-pub acknowledged_within : (quorum greatest : ℕ) (log : Log) (acked : List ℕ) → StreamFits quorum greatest log acked → greatest ≤ length log
-acknowledged_within quorum greatest log acked f = reached_within acked greatest (length log) f.reach (omega (arith, f.some, f.is_acknowledged.quorum_has))
