@@ -112,6 +112,15 @@ impl Family {
         order_refusal(last, first_of(batch))
     }
 
+    /// The log of a stream, lent.
+    pub fn log(&self, stream: u32) -> &Batches
+        requires first_stream { 1 ≤ stream }
+        requires last_stream { stream ≤ length self.now }
+        ensures { result.now ≡ log_of_stream self.now stream }
+    {
+        &self.logs[stream as usize - 1]
+    }
+
     /// The items that the logs decide together: those of each epoch that every log has come to, as
     /// far as every log has come in it. They are sorted by stamp, and those of one stamp by stream.
     pub fn history(&self, alloc: Global) -> Result<Items, Memory>

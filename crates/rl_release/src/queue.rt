@@ -1,6 +1,6 @@
 //! Items that wait for their release.
 
-ghost use Rattle.std.specs.Prelude.{◌≡◌, ◌≤◌, [], ◌∷◌, ◌++◌, OnOk, OnErr, IfErr, IfSome, IfNone, IsSome, IsTrue, ◌↔◌};
+ghost use Rattle.std.specs.Prelude.{◌≡◌, ◌≤◌, [], ◌∷◌, ◌++◌, OnOk, OnErr, IfErr, IfSome, IfNone, IsSome, IsNone, IsTrue, Some, slice_get, ◌↔◌};
 ghost use Rattle.rl_base.specs.Stamps.{packed};
 ghost use Rattle.rl_release.specs.Due.{IsDue};
 
@@ -34,6 +34,14 @@ impl Queue {
         Queue {
             items: VecDeque::new(alloc),
         }
+    }
+
+    /// The front item, lent, or `None` where the queue is empty.
+    pub fn front(&self) -> Option<&Item>
+        ensures item { IfSome result (λ item. slice_get self.now 0 ≡ Some item.now) }
+        ensures empty { IsNone result ↔ (self.now ≡ []) }
+    {
+        self.items.front()
     }
 
     /// Puts an item at the back. After `Memory` the queue is unchanged, and the item comes back.
