@@ -19,18 +19,18 @@ use Rattle.rl_families.proofs.Nesting.{least_le, last_settled}
 use Rattle.rl_families.proofs.Strict.{Apart, Strict, Diff, in_order_strict, filter_diff, append_diff, log_diff, map_strict, strict_apart, strict_filter, strict_append, same_members}
 use Rattle.rl_families.proofs.Streams.{in_streams, streams_in, in_logs, in_history, history_in, nests, has_last, last_other, greatest_common, tops_bound}
 
-above_zero : (b : ℕ) → 0 < suc b
+pub above_zero : (b : ℕ) → 0 < suc b
 above_zero b = omega arith
 
 module _ (l : Leaders) (n : ℕ) (g : AreLeaders l n) where
-  log_is : (e s : ℕ) → 0 < e → leader_log l e s ≡ l.recovered e s ++ (open_mark e ∷ l.proposed e s)
+  pub log_is : (e s : ℕ) → 0 < e → leader_log l e s ≡ l.recovered e s ++ (open_mark e ∷ l.proposed e s)
   log_is zero s h = absurd (omega arith)
   log_is (suc e) s h = refl
 
   own_rises : (e s : ℕ) → Rises (own_stamps l e s)
   own_rises e s = rises_from (own_stamps l e s) (g.rising e s)
 
-  own_epoch : (e s : ℕ) (t : Stamp) → In t (own_stamps l e s) → t.epoch ≡ e
+  pub own_epoch : (e s : ℕ) (t : Stamp) → In t (own_stamps l e s) → t.epoch ≡ e
   own_epoch e s t i = g.own e s t (in_contains (own_stamps l e s) t i)
 
   own_seq : (e s : ℕ) (t : Stamp) → In t (own_stamps l e s) → 0 < t.seq
@@ -42,10 +42,10 @@ module _ (l : Leaders) (n : ℕ) (g : AreLeaders l n) where
     ]
   ]
 
-  told_own : (e s : ℕ) (t : Stamp) → In t (stamps_along (open_mark e ∷ l.proposed e s)) → In t (own_stamps l e s)
+  pub told_own : (e s : ℕ) (t : Stamp) → In t (stamps_along (open_mark e ∷ l.proposed e s)) → In t (own_stamps l e s)
   told_own e s t i = in_front t (stamps_along (open_mark e ∷ l.proposed e s)) (map (λ (x : Item). x.stamp) (l.pending e s)) i
 
-  record StampOk (b : ℕ) (t : Stamp) : Type 0 where
+  pub record StampOk (b : ℕ) (t : Stamp) : Type 0 where
     pub born : 0 < t.epoch
     pub low : t.epoch ≤ b
     pub seq : 0 < t.seq
@@ -60,7 +60,7 @@ module _ (l : Leaders) (n : ℕ) (g : AreLeaders l n) where
     | inr j ↦ (let k = told_own (suc b) s t j in let e = own_epoch (suc b) s t k in record { born = omega arith; low = omega arith; seq = own_seq (suc b) s t k })
   ]
 
-  recovered_ok : (e s : ℕ) → 0 < e → (t : Stamp) → In t (stamps_along (l.recovered e s)) → (0 < t.epoch) × (t.epoch < e) × (0 < t.seq)
+  pub recovered_ok : (e s : ℕ) → 0 < e → (t : Stamp) → In t (stamps_along (l.recovered e s)) → (0 < t.epoch) × (t.epoch < e) × (0 < t.seq)
   recovered_ok e s h t i =
       let from = g.recovers e s h in
       let o = stamp_ok (suc from.0) from.0 s (omega arith) t (stamps_pre t (l.recovered e s) (leader_log l from.0 s) from.2 i) in
@@ -100,18 +100,18 @@ module _ (l : Leaders) (n : ℕ) (g : AreLeaders l n) where
         (subst (λ z. In x (l.decided z)) (sym e) (contains_in (l.decided (suc b)) x k.0), k.1))
   ]
 
-  decided_strict : (e : ℕ) → Strict (l.decided e)
+  pub decided_strict : (e : ℕ) → Strict (l.decided e)
   decided_strict e = map_strict (l.decided e) (rises_from (map (λ (x : Item). x.stamp) (l.decided e)) (g.serial e))
 
   -- ---- a family of prefixes of leaders' logs ----
   module _ (f : ℕ → List Batch) (told : ArePrefixesOfLeaders l n f) where
-    f_rises : (s : ℕ) → 1 ≤ s → s ≤ n → Rises (stamps_along (f s))
+    pub f_rises : (s : ℕ) → 1 ≤ s → s ≤ n → Rises (stamps_along (f s))
     f_rises s p q = let k = told s p q in rises_pre (f s) (leader_log l k.0 s) k.1 (rises_at k.0 s)
 
-    f_stamp : (s : ℕ) (p : 1 ≤ s) (q : s ≤ n) (t : Stamp) → In t (stamps_along (f s)) → StampOk (told s p q).0 t
+    pub f_stamp : (s : ℕ) (p : 1 ≤ s) (q : s ≤ n) (t : Stamp) → In t (stamps_along (f s)) → StampOk (told s p q).0 t
     f_stamp s p q t i = let k = told s p q in stamp_ok (suc k.0) k.0 s (omega arith) t (stamps_pre t (f s) (leader_log l k.0 s) k.1 i)
 
-    f_item : (s : ℕ) → 1 ≤ s → s ≤ n → (x : Item) → In x (items_along (f s)) → In x (l.decided x.stamp.epoch) × (x.worker ≡ s)
+    pub f_item : (s : ℕ) → 1 ≤ s → s ≤ n → (x : Item) → In x (items_along (f s)) → In x (l.decided x.stamp.epoch) × (x.worker ≡ s)
     f_item s p q x i = let k = told s p q in item_ok (suc k.0) k.0 s (omega arith) x (items_pre x (f s) (leader_log l k.0 s) k.1 i)
 
     f_diff : (m : ℕ) → m ≤ n → Diff (flat_map items_along (logs_of_streams m f))
@@ -140,7 +140,7 @@ module _ (l : Leaders) (n : ℕ) (g : AreLeaders l n) where
           ]
         ]
 
-    hist_strict : Strict (history (logs_of_streams n f))
+    pub hist_strict : Strict (history (logs_of_streams n f))
     hist_strict = in_order_strict (filter (λ (y : Item). is_counted (logs_of_streams n f) y.stamp) (flat_map items_along (logs_of_streams n f)))
         (filter_diff (λ (y : Item). is_counted (logs_of_streams n f) y.stamp) (flat_map items_along (logs_of_streams n f)) (f_diff n (omega arith)))
 
@@ -210,7 +210,7 @@ module _ (l : Leaders) (n : ℕ) (g : AreLeaders l n) where
     | inr j ↦ absurd j
   ]
 
-  decided_epoch : (e : ℕ) (x : Item) → In x (l.decided e) → x.stamp.epoch ≡ e
+  pub decided_epoch : (e : ℕ) (x : Item) → In x (l.decided e) → x.stamp.epoch ≡ e
   decided_epoch e x i =
       let d = g.decides e x (in_contains (l.decided e) x i) in
       own_epoch e x.worker x.stamp (elim (in_split x (items_along (l.proposed e x.worker)) (l.pending e x.worker) (contains_in (items_along (l.proposed e x.worker) ++ l.pending e x.worker) x d.2)) [

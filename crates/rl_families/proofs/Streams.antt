@@ -98,7 +98,7 @@ inside_streams : (n : ℕ) (f h : ℕ → List Batch) → ((s : ℕ) → 1 ≤ s
 inside_streams zero f h p = tt
 inside_streams (suc n) f h p = AllZip-push IsPrefix (logs_of_streams n f) (logs_of_streams n h) (f (suc n)) (h (suc n)) (inside_streams n f h (λ s a b. p s a (omega arith))) (p (suc n) (omega arith) (omega arith))
 
-rise_streams : (n : ℕ) (f : ℕ → List Batch) → ((s : ℕ) → 1 ≤ s → s ≤ n → Rises (stamps_along (f s))) → AllRise (logs_of_streams n f)
+pub rise_streams : (n : ℕ) (f : ℕ → List Batch) → ((s : ℕ) → 1 ≤ s → s ≤ n → Rises (stamps_along (f s))) → AllRise (logs_of_streams n f)
 rise_streams zero f r = All-nil (λ (log : List Batch). IsRising (stamps_along log))
 rise_streams (suc n) f r = All-push (λ (log : List Batch). IsRising (stamps_along log)) (logs_of_streams n f) (f (suc n)) (rise_streams n f (λ s a b. r s a (omega arith))) (from_rises (stamps_along (f (suc n))) (r (suc n) (omega arith) (omega arith)))
 

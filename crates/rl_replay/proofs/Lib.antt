@@ -4,3 +4,5 @@ pub mod Stamped
 pub mod Newer
 pub mod Replays
 pub mod Answering
+pub mod Numbered
+pub mod Following

@@ -15,7 +15,7 @@ length-entries_more log i b l e =
     ∙ length-append (entries (take i log)) (entries_of (get_or log i b) ++ [])
     ∙ ap (λ z. length (entries (take i log)) + length z) (append-nil (entries_of (get_or log i b)) ∙ ap entries_of (sym e))
 
-front : (xs ys : List Entry) (n : ℕ) → n < length xs → slice_get (xs ++ ys) n ≡ slice_get xs n
+pub front : (xs ys : List Entry) (n : ℕ) → n < length xs → slice_get (xs ++ ys) n ≡ slice_get xs n
 front [] ys n l = absurd (omega arith)
 front (x ∷ xs) ys zero l = refl
 front (x ∷ xs) ys (suc n) l = front xs ys n (omega arith)

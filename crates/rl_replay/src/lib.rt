@@ -2,6 +2,7 @@
 #![tactic(auto)]
 
 mod cursor;
+pub mod laws;
 mod newest;
 pub mod played;
 pub mod replica;

@@ -82,22 +82,21 @@ impl Replica {
         &self.map
     }
 
-    /// The epoch of the next entry of a stream, in the first `known` batches of its log; none where
-    /// these are played out.
+    /// The epoch of the next entry of a stream, in the first `known` batches of its log, or in all
+    /// where it has fewer; none where these are played out.
     pub fn next_epoch_of(&self, stream: u32, log: &Batches, known: u32) -> Option<u32>
         requires first_stream { 1 ≤ stream }
         requires last_stream { stream ≤ length self.now.played }
-        requires known { known ≤ length log.now }
         ensures { result
             ≡ option_map (λ e. e.stamp.epoch) (next_entry self.now stream (take known log.now)) }
     {
-        let known = &log.as_slice()[..known as usize];
+        let known = first_batches(log, known);
         let (batch, index) = find(known, self.played[stream as usize - 1])?;
         Some(epoch_at(batch, index))
     }
 
-    /// Plays the next entry of a stream, in the first `known` batches of its log, with the bound of
-    /// the entry's epoch and the seq of the watermark.
+    /// Plays the next entry of a stream, in the first `known` batches of its log, or in all where it
+    /// has fewer, with the bound of the entry's epoch and the seq of the watermark.
     ///
     /// `Memory` leaves the applied items and the cursors as they were. A prefix of the writes of an
     /// item that was to be applied may stand in the rows then; every later `play` answers `Memory`
@@ -113,7 +112,6 @@ impl Replica {
     ) -> Result<Played, Memory>
         requires first_stream { 1 ≤ stream }
         requires last_stream { stream ≤ length self.old.played }
-        requires known { known ≤ length log.now }
         ensures answer { let next = next_entry self.old stream (take known log.now) in
             IfOk result (λ p. p ≡ play_answer next bound watermark) }
         ensures state { let next = next_entry self.old stream (take known log.now) in
@@ -127,7 +125,7 @@ impl Replica {
         if self.failed {
             return Err(Memory);
         }
-        let known = &log.as_slice()[..known as usize];
+        let known = first_batches(log, known);
         match find(known, self.played[stream as usize - 1]) {
             Some((batch, index)) => self.play_at(alloc, stream, batch, index, bound, watermark),
             None => Ok(Played::Empty),
@@ -304,6 +302,14 @@ fn has_stamp(items: &[Item], stamp: Stamp) -> bool
     ensures { IsTrue result ↔ HasStamp items.now stamp }
 {
     items.iter().any(|item| item.stamp.epoch == stamp.epoch && item.stamp.seq == stamp.seq)
+}
+
+/// The first batches of a log: all, where it has no more.
+fn first_batches(log: &Batches, count: u32) -> &[Batch]
+    ensures { result.now ≡ take count log.now }
+{
+    let count = log.len().min(count as usize);
+    &log.as_slice()[..count]
 }
 
 /// The epoch of an entry of a batch.
