@@ -31,29 +31,56 @@ fn deliver(net: &mut Net, number: u64) -> Result<(u32, Option<u8>), NoMessage>
 #[test]
 fn what_was_not_sent(rt: HostRuntime) -> Result<(), Fail> {
     let mut net = Net::new(rt.alloc());
-    assert_eq!(rt; deliver(&mut net, 1), Err(NoMessage { number: 1 }));
-    assert_eq!(rt; net.discard(1), Err(NoMessage { number: 1 }));
+    for number in [0, 1, u64::MAX] {
+        assert_eq!(rt; deliver(&mut net, number), Err(NoMessage { number }));
+        assert_eq!(rt; net.discard(number), Err(NoMessage { number }));
+    }
     assert_eq!(rt; net.next_pending(0, u64::MAX), None);
-    let mut net = three_messages(rt.alloc())?;
-    assert_eq!(rt; deliver(&mut net, 0), Err(NoMessage { number: 0 }));
-    assert_eq!(rt; net.discard(4), Err(NoMessage { number: 4 }));
     Ok(())
+}
+
+#[test]
+fn what_is_delivered(rt: HostRuntime) -> Result<(), Fail> {
+    let mut net = three_messages(rt.alloc())?;
+    for (number, to, byte) in [(2, 2, 12), (2, 2, 12), (1, 1, 11), (3, 3, 13)] {
+        assert_eq!(rt; deliver(&mut net, number), Ok((to, Some(byte))));
+    }
+    Ok(())
+}
+
+/// What becomes of a message.
+#[derive(Clone, Copy)]
+enum Mark {
+    Deliver,
+    Discard,
+}
+
+/// Delivers or discards a message, and answers which one is pending next, of all.
+fn next_after(net: &mut Net, mark: Mark, number: u64) -> Result<Option<u64>, NoMessage> {
+    match mark {
+        Mark::Deliver => {
+            net.deliver(number)?;
+        }
+        Mark::Discard => net.discard(number)?,
+    }
+    Ok(net.next_pending(0, u64::MAX))
 }
 
 #[test]
 fn what_is_pending(rt: HostRuntime) -> Result<(), Fail> {
     let mut net = three_messages(rt.alloc())?;
-    assert_eq!(rt; net.next_pending(0, 3), Some(1));
-    assert_eq!(rt; deliver(&mut net, 2), Ok((2, Some(12))));
-    assert_eq!(rt; deliver(&mut net, 2), Ok((2, Some(12))));
-    assert_eq!(rt; net.next_pending(1, 3), Some(3));
-    assert_eq!(rt; net.next_pending(1, 2), None);
-    assert_eq!(rt; net.discard(1), Ok(()));
-    assert_eq!(rt; net.discard(1), Ok(()));
-    assert_eq!(rt; net.next_pending(0, u64::MAX), Some(3));
-    assert_eq!(rt; deliver(&mut net, 1), Ok((1, Some(11))));
-    assert_eq!(rt; deliver(&mut net, 3), Ok((3, Some(13))));
-    assert_eq!(rt; net.next_pending(0, u64::MAX), None);
+    assert_eq!(rt; net.next_pending(1, 1), None);
+    let marks = [
+        (Mark::Deliver, 2, Some(1)),
+        (Mark::Deliver, 2, Some(1)),
+        (Mark::Discard, 1, Some(3)),
+        (Mark::Discard, 1, Some(3)),
+        (Mark::Deliver, 1, Some(3)),
+        (Mark::Deliver, 3, None),
+    ];
+    for (mark, number, next) in marks {
+        assert_eq!(rt; next_after(&mut net, mark, number), Ok(next));
+    }
     Ok(())
 }
 
