@@ -2,4 +2,5 @@ pub mod Appends
 pub mod BatchLaws
 pub mod ItemLaws
 pub mod Rising
+pub mod Sizes
 pub mod WriteLaws

@@ -1,3 +1,4 @@
 pub mod Encoding
+pub mod Laws
 pub mod Ranges
 pub mod Reading

@@ -1,6 +1,7 @@
 //! Batches as bytes.
 
-ghost use Rattle.std.specs.Prelude.{◌≡◌, ◌++◌, IfOk, OnOk, Ok};
+ghost use Rattle.std.specs.Prelude.{◌≡◌, ◌≤◌, ◌++◌, length, IfOk, OnOk, Ok};
+ghost use Rattle.rl_fields.specs.declared.limit.TheConstants.{BATCH_BYTES};
 ghost use Rattle.rl_batch.specs.Ranges.{BatchInRange, HasWords};
 ghost use Rattle.rl_batch.specs.Encoding.{mark_bytes, batch_bytes};
 ghost use Rattle.rl_batch.specs.Reading.{read_batch};
@@ -23,6 +24,8 @@ use std::alloc::Global;
 pub fn encode_batch(alloc: Global, b: &Batch) -> Result<Bytes, Memory>
     requires { BatchInRange b.now }
     ensures encoded { IfOk result (λ bytes. bytes ≡ batch_bytes b.now) }
+    ensures some { IfOk result (λ bytes. 1 ≤ length bytes) }
+    ensures short { IfOk result (λ bytes. length bytes ≤ BATCH_BYTES) }
     // Reading it gives the batch again.
     ensures read_back { IfOk result (λ bytes. read_batch bytes ≡ Ok b.now) }
 {

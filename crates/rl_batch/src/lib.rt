@@ -5,5 +5,6 @@ pub mod batch_error;
 pub mod decode;
 pub mod encode;
 mod item;
+pub mod laws;
 mod row;
 mod write;

@@ -26,12 +26,16 @@ module _ {A : Type 0} (read : List ℕ → Result (A × List ℕ) Fault) (encodi
       let parts : bytes ≡ encoding a.0.0 = t.0.parts ∙ ap (λ (rest : List ℕ). encoding a.0.0 ++ rest) g.1 ∙ append-nil (encoding a.0.0) in
       subst (λ (z : A). (bytes ≡ encoding z) × InRange z) g.0 (parts, t.1)
 
+  -- what is read is encoded by the bytes, and in range
+  pub read_encoded : (bytes : List ℕ) (y : A) → IsBytes bytes → with_offset bytes (whole read bytes) ≡ Ok y → (bytes ≡ encoding y) × InRange y
+  read_encoded bytes y fits e = whole_takes bytes y fits (with_offset_ok bytes (whole read bytes) y e)
+
   pub decoded_encoded : (bytes : List ℕ) (answer : Result A DecodeError) → IsBytes bytes → IsDecoded (with_offset bytes (whole read bytes)) answer → IfOk answer (λ y. bytes ≡ encoding y)
-  decoded_encoded bytes (Ok y) fits said = (whole_takes bytes y fits (with_offset_ok bytes (whole read bytes) y said)).0
+  decoded_encoded bytes (Ok y) fits said = (read_encoded bytes y fits said).0
   decoded_encoded bytes (Err e) fits said = tt
 
   pub decoded_in_range : (bytes : List ℕ) (answer : Result A DecodeError) → IsBytes bytes → IsDecoded (with_offset bytes (whole read bytes)) answer → IfOk answer InRange
-  decoded_in_range bytes (Ok y) fits said = (whole_takes bytes y fits (with_offset_ok bytes (whole read bytes) y said)).1
+  decoded_in_range bytes (Ok y) fits said = (read_encoded bytes y fits said).1
   decoded_in_range bytes (Err e) fits said = tt
 
 -- where an encoding is read again, so is each answer that is it

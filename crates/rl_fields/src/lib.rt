@@ -3,6 +3,7 @@
 
 pub mod decode_error;
 pub mod fault;
+pub mod limit;
 pub mod number;
 pub mod string;
 pub mod writing;

@@ -19,7 +19,7 @@ use Rattle.rl_fields.proofs.FieldLaws.{IsBytes-rest, bind_ok, ok_is, Takes, Take
 use Rattle.rl_fields.proofs.DecodeLaws.{IsWholeReader}
 use Rattle.rl_fields.proofs.SeriesLaws.{several_takes, several_again}
 use Rattle.rl_msg.specs.declared.head.Head.{Head}
-use Rattle.rl_msg.specs.declared.log.TheConstants.{BATCH_BYTES}
+use Rattle.rl_fields.specs.declared.limit.TheConstants.{BATCH_BYTES}
 use Rattle.rl_msg.specs.declared.msg.Msg.{Msg}
 use Rattle.rl_msg.specs.declared.msg.Msg.TheVariants.{Prepare, Promise, Sync, Accept, Ack, Known}
 use Rattle.rl_msg.specs.Encoding.{head_bytes, embedded_batch_bytes, log_bytes, stream_bytes, streams_bytes, stream_and_slot_bytes, msg_bytes}

@@ -1,4 +1,5 @@
 pub mod Encoding
+pub mod Laws
 pub mod Parts
 pub mod Ranges
 pub mod Reading

@@ -1,7 +1,7 @@
 -- The messages that have an encoding.
 use Rattle.std.specs.Prelude.{◌≡◌, ℕ, ◌≤◌, ◌^◌, ◌-◌, List, length, All}
 use Rattle.rl_base.specs.declared.limit.TheConstants.{NODES, WORKERS, SLOTS}
-use Rattle.rl_msg.specs.declared.log.TheConstants.{BATCH_BYTES}
+use Rattle.rl_fields.specs.declared.limit.TheConstants.{BATCH_BYTES}
 use Rattle.rl_msg.specs.declared.msg.Msg.{Msg}
 use Rattle.rl_msg.specs.declared.msg.Msg.TheVariants.{Prepare, Promise, Sync, Accept, Ack, Known}
 

@@ -8,7 +8,7 @@ use Rattle.rl_fields.specs.declared.fault.Fault.{Fault}
 use Rattle.rl_fields.specs.Faults.{fault_at, with_offset}
 use Rattle.rl_fields.specs.Fields.{within, string, several, whole}
 use Rattle.rl_msg.specs.declared.head.Head.{Head}
-use Rattle.rl_msg.specs.declared.log.TheConstants.{BATCH_BYTES}
+use Rattle.rl_fields.specs.declared.limit.TheConstants.{BATCH_BYTES}
 use Rattle.rl_msg.specs.declared.msg.Msg.{Msg}
 use Rattle.rl_msg.specs.declared.msg.Msg.TheVariants.{Prepare, Promise, Sync, Accept, Ack, Known}
 

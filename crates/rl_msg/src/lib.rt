@@ -4,6 +4,7 @@
 pub mod decode;
 pub mod encode;
 mod head;
+pub mod laws;
 mod log;
 pub mod msg;
 pub mod msg_error;

@@ -13,13 +13,11 @@ use rl_base::limit::{SLOTS, WORKERS};
 use rl_base::list::{Ballots, Bytes, Log, Logs};
 use rl_base::memory::Memory;
 use rl_fields::fault::{Fault, ReadError};
+use rl_fields::limit::BATCH_BYTES;
 use rl_fields::number::{u8_within, u32_within};
 use rl_fields::string::string;
 use rl_fields::writing::{push_u8, push_u32};
 use std::alloc::Global;
-
-/// How many bytes a batch may have.
-pub const BATCH_BYTES: u32 = 262144;
 
 /// The greatest number of a stream.
 pub const LAST_STREAM: u8 = WORKERS as u8;

@@ -47,6 +47,8 @@ fn promises(
 {
     let have = candidate.promise(node, ballots(alloc, ballot)?, logs(alloc, bytes)?);
     assert_eq!(rt; have, expected);
+    assert_eq!(rt; candidate.have(), expected);
+    assert!(rt; candidate.has_promised(node));
     Ok(())
 }
 

@@ -49,6 +49,7 @@ fn what_is_sent_again(rt: HostRuntime) -> Result<(), Fail> {
     let alloc = rt.alloc();
     let mut stream = LeaderStream::new(alloc, 1, 3, 2, empty_batches(alloc, 1)?)?;
     assert_eq!(rt; stream.propose(Bytes::new(alloc)), Ok(1));
+    assert_eq!(rt; stream.initial_len(), 1);
     let acks = [
         (0, Resend::Sync),
         (1, Resend::From { slot: 1 }),

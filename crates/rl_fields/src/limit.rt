@@ -1,0 +1,4 @@
+//! The limits of byte strings.
+
+/// The most bytes of a batch.
+pub const BATCH_BYTES: u32 = 262144;
