@@ -1,8 +1,9 @@
 -- The order of stamps.
-use Rattle.std.proofs.Common.{◌≡◌, ◌≢◌, ◌⊎◌, ℕ, Bool, true, false, ◌&&◌, ◌||◌, ◌==◌, nat_lt, refl, sym, ap, ◌∙◌, arith, inl, inr}
+use Rattle.std.proofs.Common.{◌≡◌, ◌≢◌, ◌<◌, ◌^◌, ℕ, true, false, ◌&&◌, ◌||◌, ◌==◌, nat_lt, sym, ap, ◌∙◌, arith, inl, inr}
 use Rattle.std.proofs.lemmas.Bool.Decides.{nat_tests}
-use Rattle.std.proofs.lemmas.Bool.{cases_Bool}
+use Rattle.std.proofs.lemmas.Bool.{cases_Bool, cases_lt}
 use Rattle.rl_base.specs.Order.{IsBelow, is_below}
+use Rattle.rl_base.specs.Stamps.{packed}
 use Rattle.rl_base.specs.declared.stamp.Stamp.{Stamp}
 
 pub is_below_tells : (s t : Stamp) → is_below s t ≡ true → IsBelow s t
@@ -39,3 +40,14 @@ below_other s t h n = elim (cases_Bool (is_below s t)) [
 
     seqs : (a b c d : ℕ) → (nat_lt a b || ((a == b) && nat_lt c d)) ≡ false → (nat_lt b a || ((b == a) && nat_lt d c)) ≡ false → c ≡ d
     seqs a b c d p q = grind (arith, nat_tests)
+
+-- stamps and their numbers have one order
+pub packed_below : (s t : Stamp) → s.seq < 2 ^ 40 → t.seq < 2 ^ 40 → IsBelow s t → packed s < packed t
+packed_below s t small_s small_t (inl h) = omega arith
+packed_below s t small_s small_t (inr h) = omega (arith, h.0, h.1)
+
+pub below_packed : (s t : Stamp) → s.seq < 2 ^ 40 → t.seq < 2 ^ 40 → packed s < packed t → IsBelow s t
+below_packed s t small_s small_t h = elim (cases_lt s.epoch t.epoch) [
+  | inl less ↦ inl less
+  | inr rest ↦ inr (omega arith, omega arith)
+]

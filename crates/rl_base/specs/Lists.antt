@@ -1,5 +1,5 @@
--- Parts of lists, and lists of lists.
-use Rattle.std.specs.Prelude.{◌≡◌, ℕ, List, [], ◌∷◌, ◌++◌, zero, suc}
+-- Parts of lists, lists of lists, and functions of a number.
+use Rattle.std.specs.Prelude.{◌≡◌, ◌==◌, ℕ, List, [], ◌∷◌, ◌++◌, zero, suc, if◌then◌else◌}
 
 -- one list begins the other
 abbrev pub IsPrefix : {X : Type 0} → List X → List X → Type 0
@@ -10,3 +10,7 @@ abbrev pub with_last : {X : Type 0} → List (List X) → ℕ → X → List (Li
 with_last [] i x = []
 with_last (list ∷ lists) zero x = (list ++ x ∷ []) ∷ lists
 with_last (list ∷ lists) (suc i) x = list ∷ with_last lists i x
+
+-- a function with another value at one number
+abbrev pub updated : {A : Type 0} → (ℕ → A) → ℕ → A → ℕ → A
+updated f i x j = if j == i then x else f j

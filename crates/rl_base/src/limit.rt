@@ -51,3 +51,9 @@ pub const SCRIPT: u32 = 4194304;
 
 /// The most bytes of a script with a report.
 pub const CHECKED: u32 = 67108864;
+
+/// The most requests of a generated script.
+pub const GENERATED: u32 = 2000;
+
+/// The most that a run of threads takes: its longest list and two, as often as it has epochs.
+pub const LIVE: u32 = 4096;

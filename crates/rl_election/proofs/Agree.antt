@@ -12,7 +12,7 @@ use Rattle.rl_base.proofs.Members.{In}
 use Rattle.rl_election.specs.World.{Cluster, QuorumsIntersect, Message, Prepare, Promised, Sync, Accept, Ack, Envelope, Term, StreamWorld, is_stream}
 use Rattle.rl_election.specs.Chosen.{acks_at_least, has_acked, IsChosen}
 use Rattle.rl_election.proofs.Inv.{initial_at, log_at, WasSent, InLeaderLog, KeptOk, shown, PromiseOk, Shows, Used, TermOk, Inv}
-use Rattle.rl_election.proofs.Prefixes.{prefix_more, prefix_trans, prefix_both}
+use Rattle.rl_base.proofs.Prefixes.{prefix_more, prefix_trans, prefix_both}
 use Rattle.rl_election.proofs.Steps.{some_same}
 use Rattle.rl_election.proofs.Updates.{index_of}
 

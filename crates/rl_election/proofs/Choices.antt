@@ -5,7 +5,7 @@ use Rattle.rl_base.specs.Lists.{IsPrefix}
 use Rattle.rl_paxos.specs.Logs.{Log}
 use Rattle.rl_election.specs.World.{Cluster, StreamWorld}
 use Rattle.rl_election.specs.Chosen.{IsLeaderLog, IsChosen, is_chosen_len}
-use Rattle.rl_election.proofs.Prefixes.{prefix_both, prefix_length}
+use Rattle.rl_base.proofs.Prefixes.{prefix_both, prefix_length}
 
 pub take_prefix : (n : ℕ) (xs : Log) → IsPrefix (take n xs) xs
 take_prefix zero xs = (xs, refl)

@@ -9,7 +9,7 @@ use Rattle.rl_paxos.specs.Recovery.{Promise, Candidate, has_promised, recovered}
 use Rattle.rl_paxos.proofs.Counting.{EachOnce}
 use Rattle.rl_base.proofs.Members.{In}
 use Rattle.rl_election.specs.World.{Cluster, Message, Prepare, Promised, Sync, Accept, Ack, Envelope, Role, Follows, Stands, Leads, Term, StreamWorld, no_stream}
-use Rattle.rl_election.proofs.Prefixes.{prefix_self, prefix_trans, prefix_length, prefix_get}
+use Rattle.rl_base.proofs.Prefixes.{prefix_self, prefix_trans, prefix_length, prefix_get}
 
 -- what an acceptor keeps at an index
 abbrev pub kept_at : Acceptor → ℕ → Kept

@@ -14,17 +14,18 @@ use Rattle.rl_paxos.specs.Logs.{Batch, Log}
 use Rattle.rl_paxos.specs.Quorums.{is_node, count, is_quorum}
 use Rattle.rl_paxos.specs.Recovery.{Promise, Candidate, with_promise, has_promised, recovered_logs}
 use Rattle.rl_paxos.proofs.Counting.{is_node_low, is_node_high}
-use Rattle.rl_base.proofs.Members.{In}
-use Rattle.rl_paxos.proofs.Members.{in_prefix, in_suffix}
+use Rattle.rl_base.proofs.Members.{In, in_prefix, in_suffix}
 use Rattle.rl_election.specs.World.{Cluster, Message, Prepare, Promised, Sync, Accept, Ack, Envelope, Role, Follows, Stands, Leads, Node, Term, StreamWorld, initial_streams, is_up, is_stream, no_stream, stream_of, with_stream, to_all}
-use Rattle.rl_election.specs.StreamEvents.{StreamEvent, Elect, Deliver, Propose, Crash, Return, Lose, acts, unless_refused, may_stand, initial_logs, syncs, leads, stands_or_leads, receives_promise, counts_ack, receives_ack, receives, delivers, proposes_in, proposes, after_stream_event, after_stream_events, streams_after, updated}
+use Rattle.rl_base.specs.Lists.{updated}
+use Rattle.rl_election.specs.StreamEvents.{StreamEvent, Elect, Deliver, Propose, Crash, Return, Lose, acts, unless_refused, may_stand, initial_logs, syncs, leads, stands_or_leads, receives_promise, counts_ack, receives_ack, receives, delivers, proposes_in, proposes, after_stream_event, after_stream_events, streams_after}
 use Rattle.rl_election.specs.Chosen.{acks_at_least, has_acked, is_chosen_len, initial_log}
 use Rattle.rl_election.proofs.Agree.{Acked, acked_in}
 use Rattle.rl_election.proofs.Inv.{WasSent, RoleOk, Inv}
-use Rattle.rl_election.proofs.Prefixes.{prefix_more, prefix_get, get_end}
+use Rattle.rl_base.proofs.Prefixes.{prefix_more, prefix_get, get_end}
 use Rattle.rl_election.proofs.Stays.{Stays, stays, more_count}
 use Rattle.rl_election.proofs.Steps.{event_inv, initial_inv}
-use Rattle.rl_election.proofs.Updates.{by_updated, index_of, to_all_has, syncs_has, get_in, length-recovered}
+use Rattle.rl_base.proofs.UpdateLemmas.{by_updated}
+use Rattle.rl_election.proofs.Updates.{index_of, to_all_has, syncs_has, get_in, length-recovered}
 
 -- each length that is counted for a node was acked by it; the initial log, and each batch behind it, was sent to each node
 pub record LeadingOk (g : Cluster) (w : StreamWorld) (e s : ℕ) (initial : Log) (x : Leading) : Type 0 where
@@ -183,7 +184,7 @@ module _ (g : Cluster) (w : StreamWorld) (inv : Inv g w) (all : AllLeadingOk g w
         initial_len = old.initial_len;
         sync_sent = old.sync_sent;
         accepts_sent = λ slot to low high member. elim (cases_eq slot (length log)) [
-          | inl q ↦ rw (q, get_end log batch, own) (in_suffix w.sent (to_all g.nodes a (Accept e s (length log) batch)) _ (to_all_has g.nodes a to (Accept e s (length log) batch) member))
+          | inl q ↦ rw (q, get_end [] log batch, own) (in_suffix w.sent (to_all g.nodes a (Accept e s (length log) batch)) _ (to_all_has g.nodes a to (Accept e s (length log) batch) member))
           | inr m ↦ (
               let less : slot < length log = omega (arith, m, high, length-append log (batch ∷ [])) in
               rw (prefix_get [] log (log ++ batch ∷ []) slot (prefix_more log (batch ∷ [])) less) (old.accepts_sent slot to low less member))

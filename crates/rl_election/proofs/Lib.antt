@@ -14,7 +14,6 @@ pub mod Inv
 pub mod Leaders
 pub mod Longest
 pub mod Origins
-pub mod Prefixes
 pub mod Room
 pub mod Rule
 pub mod Stays

@@ -12,7 +12,7 @@ use Rattle.rl_election.specs.Chosen.{IsChosen, IsLongestChosen}
 use Rattle.rl_election.proofs.Agree.{chosen_within, chosen_begins}
 use Rattle.rl_election.proofs.Choices.{some_choice}
 use Rattle.rl_election.proofs.Inv.{initial_at, log_at, TermOk, Inv}
-use Rattle.rl_election.proofs.Prefixes.{prefix_trans, prefix_both}
+use Rattle.rl_base.proofs.Prefixes.{prefix_trans, prefix_both}
 use Rattle.rl_election.proofs.Stays.{Stays, chosen_grows}
 use Rattle.rl_election.proofs.Steps.{some_none}
 

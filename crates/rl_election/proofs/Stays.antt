@@ -13,8 +13,8 @@ use Rattle.rl_election.specs.World.{Cluster, Message, Prepare, Promised, Sync, A
 use Rattle.rl_election.specs.StreamEvents.{StreamEvent, Elect, Deliver, Propose, Crash, Return, Lose, acts, unless_refused, may_stand, leads, stands_or_leads, receives_promise, counts_ack, receives_ack, receives, delivers, proposes_in, proposes, after_stream_event, after_stream_events, streams_after}
 use Rattle.rl_election.specs.Chosen.{acks_at_least, has_acked, is_chosen_len, IsChosen}
 use Rattle.rl_election.specs.Laws.{Stretch, before, at_end}
-use Rattle.rl_election.proofs.Prefixes.{prefix_self, prefix_trans}
-use Rattle.rl_election.proofs.Updates.{by_updated}
+use Rattle.rl_base.proofs.Prefixes.{prefix_self, prefix_trans}
+use Rattle.rl_base.proofs.UpdateLemmas.{by_updated}
 use Rattle.rl_election.proofs.Inv.{log_at, RoleOk, Inv, TermGrows, term_stays}
 use Rattle.rl_election.proofs.Steps.{some_same, some_none, further_terms, event_inv, events_inv, initial_inv}
 

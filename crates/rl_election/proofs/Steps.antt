@@ -13,12 +13,13 @@ use Rattle.rl_paxos.specs.Logs.{Batch, Log}
 use Rattle.rl_paxos.specs.Quorums.{is_node, count, is_quorum}
 use Rattle.rl_paxos.specs.Recovery.{Promise, Candidate, new_candidate, with_promise, has_promised, recovered, recovered_logs}
 use Rattle.rl_paxos.proofs.Counting.{none, counted_once}
-use Rattle.rl_base.proofs.Members.{In}
-use Rattle.rl_paxos.proofs.Members.{in_prefix, in_suffix, in_split}
+use Rattle.rl_base.proofs.Members.{In, in_prefix, in_suffix, in_split}
 use Rattle.rl_election.specs.World.{Cluster, Message, Prepare, Promised, Sync, Accept, Ack, Envelope, State, Lost, Role, Follows, Stands, Leads, Node, Term, StreamWorld, to_all, initial_streams, is_up, is_stream, stream_of, with_stream}
-use Rattle.rl_election.specs.StreamEvents.{StreamEvent, Elect, Deliver, Propose, Crash, Return, Lose, updated, acts, unless_refused, may_stand, stands_for, answers, promise_message, ack_message, initial_logs, syncs, leads, stands_or_leads, receives_promise, counts_ack, receives_ack, receives, delivers, proposes_in, proposes, crashed, returned, after_stream_event, after_stream_events}
-use Rattle.rl_election.proofs.Prefixes.{prefix_self, prefix_more, prefix_trans, prefix_next, get_end}
-use Rattle.rl_election.proofs.Updates.{by_updated, updated_same, updated_other, index_of, with_kept_here, with_kept_other, shown_is, to_all_in, to_all_has, syncs_in, get_in, length-recovered, get_or-recovered, new_logs, log_other, log_here}
+use Rattle.rl_base.specs.Lists.{updated}
+use Rattle.rl_election.specs.StreamEvents.{StreamEvent, Elect, Deliver, Propose, Crash, Return, Lose, acts, unless_refused, may_stand, stands_for, answers, promise_message, ack_message, initial_logs, syncs, leads, stands_or_leads, receives_promise, counts_ack, receives_ack, receives, delivers, proposes_in, proposes, crashed, returned, after_stream_event, after_stream_events}
+use Rattle.rl_base.proofs.Prefixes.{prefix_self, prefix_more, prefix_trans, prefix_next, get_end}
+use Rattle.rl_base.proofs.UpdateLemmas.{by_updated, updated_same, updated_other}
+use Rattle.rl_election.proofs.Updates.{index_of, with_kept_here, with_kept_other, shown_is, to_all_in, to_all_has, syncs_in, get_in, length-recovered, get_or-recovered, new_logs, log_other, log_here}
 use Rattle.rl_election.proofs.Inv.{kept_at, initial_at, log_at, WasSent, InLeaderLog, KeptOk, AcceptorOk, shown, PromiseOk, AcceptOk, AckOk, MessageOk, Shows, Used, StandsOk, RoleOk, TermOk, Inv, TermGrows, AcceptorGrows, Grows, leader_log_kept, kept_kept, used_kept, message_kept, stands_kept, acceptor_kept, term_kept, acceptor_stays, term_stays}
 
 -- neither a promise nor an ack
@@ -523,7 +524,7 @@ module _ (g : Cluster) (w : StreamWorld) (inv : Inv g w) where
         term = with_stream t s y;
         term_is = updated_same w.terms e (Some (with_stream t s y));
         there = rw has (omega (arith, length-append old (batch ∷ [])));
-        batch_is = rw has (get_end old batch);
+        batch_is = rw has (get_end [] old batch);
       } in
       later_inv e s t is there y grown a own led (updated w.node a (w.node a)) (λ b. by_updated (λ z. z ≡ w.node b) w.node a (w.node a) b (λ i. rw i refl) (λ m. refl)) ms
       (λ m i. rw (to_all_in g.nodes a message m i).1 tt)

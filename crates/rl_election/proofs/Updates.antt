@@ -1,28 +1,17 @@
--- Changes at one place of a function or a list, and what is sent to all.
-use Rattle.std.proofs.Common.{◌≡◌, ◌≢◌, ℕ, zero, suc, ◌+◌, ◌-◌, ◌<◌, ◌≤◌, List, [], ◌∷◌, ◌++◌, length, map, get_or, true, nat_le, Some, None, refl, ap, ◌∙◌, arith, inl, inr, eq-eqb, ne_eqb, length-append, get_or-set_same, get_or-set_other}
+-- Changes at one index of a list, and what is sent to all.
+use Rattle.std.proofs.Common.{◌≡◌, ◌≢◌, ℕ, zero, suc, ◌+◌, ◌-◌, ◌<◌, ◌≤◌, List, [], ◌∷◌, ◌++◌, length, map, get_or, true, nat_le, Some, None, refl, ap, ◌∙◌, arith, inl, inr, length-append, get_or-set_same, get_or-set_other}
 use Rattle.std.proofs.lemmas.Bool.{cases_eq, and_parts, leb-true}
 use Rattle.std.specs.Prelude.{slice_get}
 use Rattle.rl_paxos.specs.Acceptors.{Kept, Acceptor, nothing_kept, with_kept}
 use Rattle.rl_paxos.specs.Leaders.{Leading, new_leading}
 use Rattle.rl_paxos.specs.Logs.{Log}
 use Rattle.rl_paxos.specs.Recovery.{Promise, recovered, recovered_logs}
-use Rattle.rl_base.proofs.Members.{In}
+use Rattle.rl_base.proofs.Members.{In, in_prefix, in_suffix, in_split}
 use Rattle.rl_paxos.specs.Quorums.{is_node}
 use Rattle.rl_paxos.proofs.Counting.{node_is, is_node_low, is_node_high}
-use Rattle.rl_paxos.proofs.Members.{in_prefix, in_suffix, in_split}
 use Rattle.rl_election.specs.World.{Cluster, Message, Sync, Envelope, Term, to_all, is_stream, no_stream, with_stream}
-use Rattle.rl_election.specs.StreamEvents.{syncs, updated}
+use Rattle.rl_election.specs.StreamEvents.{syncs}
 use Rattle.rl_election.proofs.Inv.{kept_at, shown, log_at}
-
-pub by_updated : {A : Type 0} (P : A → Type 0) (f : ℕ → A) (i : ℕ) (x : A) (j : ℕ) → (j ≡ i → P x) → (j ≢ i → P (f j)) → P (updated f i x j)
-by_updated P f i x j here there =
-    elim (cases_eq j i) [ inl e ↦ rw (eq-eqb j i e) (here e) | inr e ↦ rw (ne_eqb j i e) (there e) ]
-
-pub updated_same : {A : Type 0} (f : ℕ → A) (i : ℕ) (x : A) → updated f i x i ≡ x
-updated_same f i x = rw (eq-eqb i i refl)
-
-pub updated_other : {A : Type 0} (f : ℕ → A) (i : ℕ) (x : A) (j : ℕ) → j ≢ i → updated f i x j ≡ f j
-updated_other f i x j n = rw (ne_eqb j i n)
 
 -- a stream has an index
 pub index_of : (g : Cluster) (s : ℕ) → is_stream g s ≡ true → s - 1 < g.streams

@@ -1,6 +1,7 @@
 -- What each event does to a world of streams.
 use Rattle.std.specs.Prelude.{ℕ, zero, suc, List, [], ◌∷◌, ◌++◌, length, map, Bool, ◌&&◌, ◌==◌, nat_lt, nat_le, if◌then◌else◌, Option, Some, None, slice_get, slice_index_or}
 use Rattle.rl_base.specs.Epochs.{owner_of}
+use Rattle.rl_base.specs.Lists.{updated}
 use Rattle.rl_paxos.specs.declared.refused.Refused.{Refused}
 use Rattle.rl_paxos.specs.Acceptors.{Kept, Acceptor, kept_log, refuses, refuses_accept, prepared, synced, accepted}
 use Rattle.rl_paxos.specs.Leaders.{new_leading, proposed, with_ack}
@@ -20,10 +21,6 @@ pub data StreamEvent : Type 0 where
   Lose : (a : ℕ) → StreamEvent
 
 -- ---- changes ----
-
--- a function with another value at one number
-abbrev pub updated : {A : Type 0} → (ℕ → A) → ℕ → A → ℕ → A
-updated f i x j = if j == i then x else f j
 
 -- a node changes and sends
 abbrev pub acts : StreamWorld → (a : ℕ) → Node → List Envelope → StreamWorld

@@ -2,4 +2,3 @@ pub mod Acknowledged
 pub mod Best
 pub mod Counting
 pub mod Least
-pub mod Members
