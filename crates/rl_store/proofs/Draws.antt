@@ -11,13 +11,14 @@ use Rattle.rl_store.specs.Entries.{In, Entry, RowOf, entries, of_item, of_attemp
 use Rattle.rl_store.specs.Layout.{Opening, place, cell_place, Closes}
 use Rattle.rl_store.specs.Rule.{Shared}
 use Rattle.rl_store.proofs.Grouped.{Ent, Fits, Apart, Kept}
-use Rattle.rl_store.specs.Views.{with_draw}
+use Rattle.rl_store.specs.Views.{with_draw, settled}
 use Rattle.rl_store.specs.Steps.{Mine, Draw}
 use Rattle.rl_store.proofs.Views.{at_below, at_end, each_set, pairs_set, put, take_back, sum_put}
 use Rattle.rl_store.proofs.Loads.{Some≢None, nowhere}
 use Rattle.rl_store.proofs.Seating.{append_none, at_behind}
 use Rattle.rl_store.proofs.Turns.{Back, Forth, Same, ent_turns, rec_turns, fits_turns, version_turns}
 use Rattle.rl_store.proofs.Locking.{undrawn_entries, undecided}
+use Rattle.rl_store.proofs.Finishing.{settles}
 
 module _ (b : Opening) (s : Shared) (h : Kept b s) (id : ℕ) (v : View) (at : get_elem? s.views id ≡ some v) (drawn : v.attempt.drawn ≡ None) (some_left : 0 < v.tries) where
   abbrev n : ℕ
@@ -205,12 +206,12 @@ pub gets : (b : Opening) (base slots id : ℕ) (me : Mine) → base ≡ b.base �
 gets b base slots id me e drawn left s h _ at _ =
     let n = get_or s.words 0 0 in
     let w = with_draw me.0 (b.base + n) in (
-      w,
+      settled w,
       keeps,
       tt,
-      subst (λ m. Kept b record { words = set s.words 0 m; homes = s.homes; views = set s.views id w }) (sym (small b s h id me.0 at drawn left)) (draws b s h id me.0 at drawn left),
+      subst (λ m. Kept b record { words = set s.words 0 m; homes = s.homes; views = set s.views id (settled w) }) (sym (small b s h id me.0 at drawn left)) (settles b (set s.words 0 (n + 1)) s id me.0 w at (draws b s h id me.0 at drawn left)),
       (
-        ap (λ k. (with_draw me.0 (k + n), me.1)) (sym e),
+        ap (λ k. (settled (with_draw me.0 (k + n)), me.1)) (sym e),
         (let a = h.next in omega arith),
         (let a = h.next in let c = h.whole in let f = h.few in let d = sum_put (λ u. u.tries) s.views id me.0 w at in omega arith),
         (λ x i. let l = (h.facts.ents x (id, me.0, at, i)).to in omega arith),

@@ -1,5 +1,5 @@
 -- The words of a store as it is made.
-use Rattle.std.proofs.Common.{◌≡◌, ◌≢◌, ℕ, zero, suc, ◌+◌, ◌*◌, ◌/◌, ◌%◌, ◌^◌, ◌<◌, ◌≤◌, List, [], ◌∷◌, ◌++◌, length, get_or, refl, sym, ap, ◌∙◌, subst, arith, length-append}
+use Rattle.std.proofs.Common.{◌≡◌, ℕ, zero, suc, ◌+◌, ◌*◌, ◌^◌, ◌<◌, ◌≤◌, List, [], ◌∷◌, ◌++◌, length, get_or, refl, sym, ap, ◌∙◌, subst, arith, length-append}
 use Rattle.std.specs.Prelude.{Some, None, slice_index_or}
 use Rattle.std.proofs.lemmas.List.{get_or_append_left, get_or-append-add, length-replicate}
 use mathlib.Core.Logic.{dite}
@@ -47,12 +47,12 @@ module _ (k : ℕ) (columns stamps : List ℕ) (rows : List RowOf) (words : List
         (λ ne. let n : r < k = omega arith in let b = few r in old_at (cell_place r j) (omega arith) ∙ f.cell r j n m);
   }
 
+pub cells_length : (columns : ℕ) (row : RowOf) → FitsColumns columns row → length (cells_of columns row) ≡ 1 + columns
+cells_length columns None fits = ap suc (length-replicate columns 0) ∙ (let z : suc columns ≡ 1 + columns = omega arith in z)
+cells_length columns (Some row) fits = ap suc fits ∙ (let z : suc columns ≡ 1 + columns = omega arith in z)
+
 module _ (made : Made) (stamps : List ℕ) (rows : List RowOf) (f : Filled (length made.columns) made.columns stamps rows made.words)
     (fit : (r : ℕ) → r < length made.columns → FitsColumns (get_or made.columns r 0) (slice_index_or rows r None)) where
-  cells_length : (columns : ℕ) (row : RowOf) → FitsColumns columns row → length (cells_of columns row) ≡ 1 + columns
-  cells_length columns None fits = ap suc (length-replicate columns 0) ∙ (let z : suc columns ≡ 1 + columns = omega arith in z)
-  cells_length columns (Some row) fits = ap suc fits ∙ (let z : suc columns ≡ 1 + columns = omega arith in z)
-
   shows : (r : ℕ) → r < length made.columns → Shows (opening_of made) made.words r (slice_index_or rows r None)
   shows r l = (cells_length (get_or made.columns r 0) (slice_index_or rows r None) (fit r l), λ k m. f.cell r k l m)
 

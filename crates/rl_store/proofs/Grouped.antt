@@ -1,10 +1,10 @@
 -- The rule, grouped by what a step touches: records, entries, views, and pairs of views. `of_rule` and `to_rule` go
 -- between this and the nine parts.
-use Rattle.std.proofs.Common.{◌≡◌, ◌≢◌, ℕ, ◌+◌, ◌*◌, ◌/◌, ◌%◌, ◌^◌, ◌<◌, ◌≤◌, ◌⊎◌, true, List, [], length, get_or, refl, ap, sym, ◌∙◌, subst}
+use Rattle.std.proofs.Common.{◌≡◌, ◌≢◌, ℕ, ◌+◌, ◌*◌, ◌/◌, ◌%◌, ◌^◌, ◌<◌, ◌≤◌, ◌⊎◌, true, List, [], length, get_or}
 use Rattle.std.specs.Prelude.{sum_by, Some, None}
 use mathlib.Core.Option.{some}
 use lib.ListN.{get_elem?}
-use Rattle.atomic_table.specs.Table.{Act, Me, Allows, Splits, Joins}
+use Rattle.atomic_table.specs.Table.{Me, Allows, Splits, Joins}
 use Rattle.rl_store.specs.declared.view.Reading.{Reading}
 use Rattle.rl_store.specs.declared.view.Read.{Read}
 use Rattle.rl_store.specs.declared.view.Held.{Held}

@@ -31,12 +31,9 @@ pub undecided : (v : View) → v.attempt.drawn ≡ None → IsDecided v.attempt 
 undecided v e d = Some≢None d.0 (sym d.1 ∙ e)
 
 module _ (b : Opening) where
-  -- a refusal before the draw
-  pub stop_keeps : (ws : List ℕ) (E : Entry → Type 0) (I : ℕ → Type 0) (v : View) (x : Refused) (hs : List Held) → v.attempt.held ≡ hs → v.attempt.drawn ≡ None → Fits b ws E I v → Quiet v (stopped hs v x) × Fits b ws E I (stopped hs v x)
-  stop_keeps ws E I v x [] held drawn f =
-      let still : Still v (refused v x) = record { items = refl; drawn = drawn; drawn' = refl; held = held; held' = refl; draws = refl; tries = refl } in
-      (still_quiet v (refused v x) still, still_fits b ws E I v (refused v x) still f (λ y e. absurd (Some≢None y (sym e))) (λ y i. absurd (nowhere y [] refl i)) (λ y z i. absurd (nowhere y [] refl i)) refl (λ y i. nowhere y [] refl i))
-  stop_keeps ws E I v x (h ∷ hs) held drawn f =
+  -- an attempt gives up before the draw
+  pub gives_up : (ws : List ℕ) (E : Entry → Type 0) (I : ℕ → Type 0) (v : View) (x : Refused) → v.attempt.drawn ≡ None → Fits b ws E I v → Quiet v (gave_up v x) × Fits b ws E I (gave_up v x)
+  gives_up ws E I v x drawn f =
       let w = gave_up v x in
       let same : entries w ≡ entries v = undrawn_entries w drawn ∙ sym (undrawn_entries v drawn) in (
         record { keep = λ e i d. subst (In e) (sym same) i; sub = λ e i. subst (In e) same i; there = λ r k. k; back = λ r k. k; installs = λ r k d. absurd (undecided v drawn d) },
@@ -52,6 +49,13 @@ module _ (b : Opening) where
           drew = subst (λ l. length l ≤ v.draws) (sym same) f.drew;
         },
       )
+
+  -- a refusal before the draw
+  pub stop_keeps : (ws : List ℕ) (E : Entry → Type 0) (I : ℕ → Type 0) (v : View) (x : Refused) (hs : List Held) → v.attempt.held ≡ hs → v.attempt.drawn ≡ None → Fits b ws E I v → Quiet v (stopped hs v x) × Fits b ws E I (stopped hs v x)
+  stop_keeps ws E I v x [] held drawn f =
+      let still : Still v (refused v x) = record { items = refl; drawn = drawn; drawn' = refl; held = held; held' = refl; draws = refl; tries = refl } in
+      (still_quiet v (refused v x) still, still_fits b ws E I v (refused v x) still f (λ y e. absurd (Some≢None y (sym e))) (λ y i. absurd (nowhere y [] refl i)) (λ y z i. absurd (nowhere y [] refl i)) refl (λ y i. nowhere y [] refl i))
+  stop_keeps ws E I v x (h ∷ hs) held drawn f = gives_up ws E I v x drawn f
 
   module _ (s : Shared) (h : Kept b s) (id : ℕ) (v w : View) (at : get_elem? s.views id ≡ some v) (same : entries w ≡ entries v) where
     pub to_new : (e : Entry) → Stands s.views e → Stands (set s.views id w) e

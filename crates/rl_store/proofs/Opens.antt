@@ -1,5 +1,5 @@
 -- The store as it is made keeps the rule.
-use Rattle.std.proofs.Common.{◌≡◌, ℕ, zero, suc, ◌+◌, ◌*◌, ◌<◌, [], ◌∷◌, length, refl, sym, ap, ◌∙◌, subst, inl, arith}
+use Rattle.std.proofs.Common.{◌≡◌, ℕ, zero, suc, ◌+◌, [], ◌∷◌, refl, sym, ◌∙◌, subst, inl, arith}
 use mathlib.Core.Option.{some, some-ne-none, some-injective}
 use lib.ListN.{get_elem?}
 use Rattle.atomic_table.specs.Table.{opening}
@@ -7,7 +7,7 @@ use Rattle.rl_store.specs.declared.view.View.{View}
 use Rattle.rl_store.specs.Entries.{In, Entry, entries, Holds}
 use Rattle.rl_store.specs.Opening.{Made, CanOpen, opening_of, first_view}
 use Rattle.rl_store.specs.Rule.{StoreRule}
-use Rattle.rl_store.proofs.Grouped.{Fits, Kept, to_rule}
+use Rattle.rl_store.proofs.Grouped.{Fits, to_rule}
 use Rattle.rl_store.proofs.Loads.{Some≢None, nowhere}
 
 pub opens : (made : Made) → CanOpen made → StoreRule (opening_of made) (opening made.words [] (first_view made.tries))

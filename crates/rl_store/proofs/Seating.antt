@@ -51,37 +51,42 @@ module _ (b : Opening) where
       (λ (x : (i.0 ≡ length xs) × (of_attempt a t ≡ e)). absurd (bad t refl (subst Decided (sym x.1) dec)))
       (at_end xs (of_attempt a t) e i.0 i.1)
 
-  pub rests : (slots id : ℕ) (me : Mine) → me.0.attempt.held ≡ [] → (IsDecided me.0.attempt → ⊥) → Allows (Kept b) slots id me 0 (λ n. n) (Rest (step slots 0 0 0 none) me)
-  rests slots id me held undecided s h _ at _ =
-      let v = me.0 in
+  -- an attempt that holds nothing and isn't decided is over
+  pub rests_kept : (s : Shared) → Kept b s → (id : ℕ) (v : View) → get_elem? s.views id ≡ some v → v.attempt.held ≡ [] → (IsDecided v.attempt → ⊥) → Kept b record { words = s.words; homes = s.homes; views = set s.views id (rested v) }
+  rests_kept s h id v at held undecided =
       let w = rested v in
       let f = h.facts.each id v at in
       let xs = map of_item v.items in
-      let old : (e : Entry) (i : ℕ) → get_elem? (xs ++ []) i ≡ some e → get_elem? (entries v) i ≡ some e = (λ e i p. at_longer xs (drawn_entry v.attempt v.attempt.drawn) i e (subst (λ l. get_elem? l i ≡ some e) (append_none xs) p)) in (
+      let old : (e : Entry) (i : ℕ) → get_elem? (xs ++ []) i ≡ some e → get_elem? (entries v) i ≡ some e = (λ e i p. at_longer xs (drawn_entry v.attempt v.attempt.drawn) i e (subst (λ l. get_elem? l i ≡ some e) (append_none xs) p)) in
+      quiet_rule b s id v w h at
+      record {
+        keep = λ e i d. keeps_decided v.attempt xs v.attempt.drawn e (λ t p q. undecided (t, p, q)) i d;
+        sub = λ e i. (i.0, old e i.0 i.1);
+        there = λ r x. absurd (nowhere x.0 v.attempt.held held x.1);
+        back = λ r x. absurd (nowhere x.0 [] refl x.1);
+        installs = λ r x. absurd (nowhere x.0 v.attempt.held held x.1);
+      }
+      refl refl
+      record {
+        opened = λ y e. absurd (Some≢None y (sym e));
+        counted = λ y i. absurd (nowhere y [] refl i);
+        alone = λ y z i. absurd (nowhere y [] refl i);
+        hands = λ y i. absurd (nowhere y [] refl i);
+        once = λ y g i j p q e. absurd (nowhere y [] refl (i, p));
+        undrawn = λ e. refl;
+        unclosed = λ y i. absurd (nowhere y [] refl i);
+        differ = λ e g i j p q. f.differ e g i j (old e i p) (old g j q);
+        drew = (let a = f.drew in let l = length-append xs (drawn_entry v.attempt v.attempt.drawn) in let m = length-append xs [] in omega arith);
+      }
+
+  pub rests : (slots id : ℕ) (me : Mine) → me.0.attempt.held ≡ [] → (IsDecided me.0.attempt → ⊥) → Allows (Kept b) slots id me 0 (λ n. n) (Rest (step slots 0 0 0 none) me)
+  rests slots id me held undecided s h _ at _ =
+      let w = rested me.0 in (
         w,
         keeps,
         tt,
-        subst (λ ws. Kept b record { words = ws; homes = s.homes; views = set s.views id w }) (sym (set-get_or s.words 0 0)) (quiet_rule b s id v w h at
-            record {
-              keep = λ e i d. keeps_decided v.attempt xs v.attempt.drawn e (λ t p q. undecided (t, p, q)) i d;
-              sub = λ e i. (i.0, old e i.0 i.1);
-              there = λ r x. absurd (nowhere x.0 v.attempt.held held x.1);
-              back = λ r x. absurd (nowhere x.0 [] refl x.1);
-              installs = λ r x. absurd (nowhere x.0 v.attempt.held held x.1);
-            }
-            refl refl
-            record {
-              opened = λ y e. absurd (Some≢None y (sym e));
-              counted = λ y i. absurd (nowhere y [] refl i);
-              alone = λ y z i. absurd (nowhere y [] refl i);
-              hands = λ y i. absurd (nowhere y [] refl i);
-              once = λ y g i j p q e. absurd (nowhere y [] refl (i, p));
-              undrawn = λ e. refl;
-              unclosed = λ y i. absurd (nowhere y [] refl i);
-              differ = λ e g i j p q. f.differ e g i j (old e i p) (old g j q);
-              drew = (let a = f.drew in let l = length-append xs (drawn_entry v.attempt v.attempt.drawn) in let m = length-append xs [] in omega arith);
-            }),
-        (refl, refl, (let a = h.whole in let f' = h.few in let p = sum_put (λ u. u.tries) s.views id v spent at in omega arith)),
+        subst (λ ws. Kept b record { words = ws; homes = s.homes; views = set s.views id w }) (sym (set-get_or s.words 0 0)) (rests_kept s h id me.0 at held undecided),
+        (refl, refl, (let a = h.whole in let f' = h.few in let p = sum_put (λ u. u.tries) s.views id me.0 spent at in omega arith)),
       )
 
   pub splits : (id n : ℕ) (v : View) → n ≤ v.tries → Splits (Kept b) id v (split_left n v) (split_right n v)

@@ -1,11 +1,10 @@
 -- A validation keeps the rule: part 7.
-use Rattle.std.proofs.Common.{◌≡◌, ◌≢◌, ◌⊎◌, ℕ, zero, suc, ◌+◌, ◌/◌, ◌≤◌, true, List, [], ◌∷◌, ◌++◌, map, length, get_or, set, refl, sym, ap, ◌∙◌, subst, inl, inr, ⊎_elim, arith, length-append, le_refl}
-use Rattle.std.specs.Prelude.{Option, Some, None}
-use mathlib.Core.Option.{some, some-ne-none, some-injective}
+use Rattle.std.proofs.Common.{◌≡◌, ◌≢◌, ◌⊎◌, ℕ, ◌+◌, ◌/◌, ◌≤◌, true, List, [], ◌∷◌, ◌++◌, map, length, get_or, set, refl, sym, ap, ◌∙◌, subst, inl, inr, ⊎_elim, arith, length-append, le_refl}
+use Rattle.std.specs.Prelude.{Some}
+use mathlib.Core.Option.{some, some-injective}
 use lib.ListN.{get_elem?}
 use Rattle.atomic_table.proofs.Lists.{at_longer, set_here}
 use Rattle.rl_store.specs.declared.view.Read.{Read}
-use Rattle.rl_store.specs.declared.view.Attempt.{Attempt}
 use Rattle.rl_store.specs.declared.view.View.{View}
 use Rattle.rl_store.specs.Entries.{In, Entry, RowOf, entries, drawn_entry, of_item, of_attempt, held_rec, write_rec, Decided, Stands, Holds, IsDecided, Locks, Installs}
 use Rattle.rl_store.specs.Layout.{Opening, place, Closes}

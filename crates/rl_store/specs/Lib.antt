@@ -9,3 +9,4 @@ pub mod Laws
 pub mod Refusals
 pub mod Opening
 pub mod Passes
+pub mod Storing

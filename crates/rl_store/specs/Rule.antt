@@ -1,7 +1,7 @@
 -- The rule of the store, which holds between any two atomic steps. It speaks of all words and of the views of all
 -- passes, in nine parts: locks, versions, stored cells, stamps seen, open reads, rows read, validation, stamps
 -- drawn, and the counter.
-use Rattle.std.specs.Prelude.{◌≡◌, ◌≢◌, ℕ, ◌+◌, ◌*◌, ◌^◌, ◌<◌, ◌≤◌, ◌⊎◌, true, List, [], length, slice_index, sum_by, Some, None}
+use Rattle.std.specs.Prelude.{◌≡◌, ◌≢◌, ℕ, ◌+◌, ◌*◌, ◌^◌, ◌<◌, ◌≤◌, ◌⊎◌, true, [], length, slice_index, sum_by, Some, None}
 use mathlib.Core.Option.{some}
 use lib.ListN.{get_elem?}
 use Rattle.atomic_table.specs.Table.{State}

@@ -1,5 +1,5 @@
 -- What it means that items are serial.
-use Rattle.std.specs.Prelude.{ℕ, ◌<◌, ◌≤◌}
+use Rattle.std.specs.Prelude.{◌<◌, ◌≤◌}
 use Rattle.rl_store.specs.declared.view.Read.{Read}
 use Rattle.rl_store.specs.Entries.{In, Entry, RowOf}
 use Rattle.rl_store.specs.Layout.{Opening, Closes, Version}

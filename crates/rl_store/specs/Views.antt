@@ -1,5 +1,5 @@
 -- What each kind of step leaves of the view of the pass that steps.
-use Rattle.std.specs.Prelude.{◌≡◌, ◌≢◌, ℕ, ◌+◌, ◌-◌, max, ◌==◌, if◌then◌else◌, List, [], ◌∷◌, ◌++◌, true, false, Some, None}
+use Rattle.std.specs.Prelude.{◌≡◌, ◌≢◌, ℕ, ◌+◌, ◌-◌, max, ◌==◌, if◌then◌else◌, List, [], ◌∷◌, ◌++◌, Bool, true, false, not, ◌&&◌, ◌||◌, Option, Some, None}
 use Rattle.rl_store.specs.declared.view.Reading.{Reading}
 use Rattle.rl_store.specs.declared.view.Read.{Read}
 use Rattle.rl_store.specs.declared.view.Held.{Held}
@@ -23,6 +23,10 @@ HasNotRead v r = (x : Read) → In x v.attempt.reads → x.rec ≢ r
 -- a word that was found locked
 abbrev pub locked_at : (r found : ℕ) → Refused
 locked_at r found = record { rec = Some r; seen = None; found = found }
+
+-- a seq that was drawn above a limit
+abbrev pub above_at : (found : ℕ) → Refused
+above_at found = record { rec = None; seen = None; found = found }
 
 -- a word that was found to be another than the one seen
 abbrev pub changed_at : (r seen found : ℕ) → Refused
@@ -93,6 +97,38 @@ spent = record { tries = 0; draws = 0; items = []; refusals = 0; last = None; sp
 abbrev pub with_lock : (v : View) (r word : ℕ) → View
 with_lock v r word =
     record v { attempt = record v.attempt { held = v.attempt.held ++ record { rec = r; old = word; stored = [] } ∷ [] } }
+
+-- whether the number stands in the list
+abbrev pub is_in : (n : ℕ) (xs : List ℕ) → Bool
+is_in n [] = false
+is_in n (x ∷ xs) = (x == n) || is_in n xs
+
+-- whether each of the reads is of a validated record
+abbrev pub all_validated : (reads : List Read) (validated : List ℕ) → Bool
+all_validated [] validated = true
+all_validated (x ∷ reads) validated = is_in x.rec validated && all_validated reads validated
+
+-- whether an attempt that has drawn is decided: it isn't given up, and each of its reads is validated
+abbrev pub is_decided : (attempt : Attempt) → Bool
+is_decided attempt = not attempt.given_up && all_validated attempt.reads attempt.validated
+
+-- the attempt becomes an item, with the writes that it has closed
+abbrev pub finished : (v : View) (stamp : ℕ) → View
+finished v stamp = record v {
+  items = v.items ++ record { stamp = stamp; reads = v.attempt.reads; writes = v.attempt.closed } ∷ [];
+  attempt = blank;
+}
+
+-- after a decision, by the records that are held: with none to close the attempt is an item at once
+abbrev pub settled_as : (held : List Held) (decided : Bool) (drawn : Option ℕ) (v : View) → View
+settled_as [] true None v = v
+settled_as [] true (Some stamp) v = finished v stamp
+settled_as [] false drawn v = v
+settled_as (h ∷ hs) decided drawn v = v
+
+-- a decided attempt that holds no record is an item
+abbrev pub settled : (v : View) → View
+settled v = settled_as v.attempt.held (is_decided v.attempt) v.attempt.drawn v
 
 -- Draw: the attempt has its stamp.
 abbrev pub with_draw : (v : View) (stamp : ℕ) → View

@@ -3,6 +3,7 @@
 
 mod cells;
 pub mod close;
+mod install;
 pub mod laws;
 mod lock;
 mod make;
@@ -13,4 +14,5 @@ mod steps;
 pub mod store;
 #[cfg(test)]
 mod tests;
+mod validate;
 mod view;

@@ -95,6 +95,30 @@ impl<N: Number> Play<(), View> for Draws<N> {
     ghost then = { Draw N.number };
 }
 
+/// The numbers of a draw with a limit: the base of the epoch, and the limit. Each call picks them.
+pub trait Bound {
+    ghost base: { ℕ };
+
+    ghost limit: { ℕ };
+}
+
+impl Bound for Brand {
+    ghost base = { 0 };
+
+    ghost limit = { 0 };
+}
+
+/// A fetch_add of 1 on word 0, with a limit.
+pub struct DrawsBelow<N> {
+    number: PhantomData<N>,
+}
+
+impl<N: Bound> Play<(), View> for DrawsBelow<N> {
+    ghost use Rattle.rl_store.specs.Steps.{DrawBelow};
+
+    ghost then = { DrawBelow N.base N.limit };
+}
+
 /// A load of a record's word, to validate a read. The number is 1 where the attempt itself holds the record.
 pub struct Validates<N> {
     number: PhantomData<N>,

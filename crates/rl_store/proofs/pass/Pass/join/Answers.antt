@@ -1,4 +1,4 @@
-use Rattle.std.proofs.Common.{sym, ap, ◌∙◌, arith}
+use Rattle.std.proofs.Common.{sym, ap, ◌∙◌}
 use Rattle.rl_store.proofs.Allowed.{rest}
 use Rattle.rl_store.proofs.Calls.{some_words}
 use Rattle.rl_store.proofs.Grouped.{joins_as}

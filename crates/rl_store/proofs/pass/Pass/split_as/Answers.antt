@@ -1,5 +1,4 @@
-use Rattle.std.proofs.Common.{◌≤◌, ap, sym, ◌∙◌, subst, ℕ, arith}
-use Rattle.rl_store.specs.declared.view.View.{View}
+use Rattle.std.proofs.Common.{ap, sym, ◌∙◌, arith}
 use Rattle.rl_store.proofs.Calls.{some_words}
 use Rattle.rl_store.proofs.Grouped.{splits_as}
 use Rattle.rl_store.proofs.Seating.{splits}

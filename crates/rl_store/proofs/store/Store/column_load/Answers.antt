@@ -1,4 +1,4 @@
-use Rattle.std.proofs.Common.{◌≡◌, ◌+◌, ◌*◌, ◌/◌, ◌<◌, length, slice_index, ap, sym, ◌∙◌, refl, subst, arith}
+use Rattle.std.proofs.Common.{◌+◌, ◌*◌, ◌/◌, ◌<◌, length, slice_index, ap, sym, ◌∙◌, subst, arith}
 use Rattle.rl_store.specs.Opening.{Made}
 use Rattle.rl_store.specs.Views.{reading_of, loaded}
 use Rattle.rl_store.proofs.Calls.{record_of}

@@ -1,5 +1,4 @@
-use Rattle.std.proofs.Common.{◌≡◌, ◌+◌, ◌*◌, ◌/◌, length, slice_index, ap, sym, ◌∙◌, refl, subst, arith, List}
-use Rattle.rl_store.specs.declared.view.Read.{Read}
+use Rattle.std.proofs.Common.{◌≡◌, ◌+◌, ◌*◌, ◌/◌, length, slice_index, ap, sym, ◌∙◌, refl, subst, arith}
 use Rattle.rl_store.specs.declared.view.View.{View}
 use Rattle.rl_value.specs.Cells.{row_of}
 use Rattle.rl_store.specs.Opening.{Made}

@@ -1,7 +1,7 @@
-use Rattle.std.proofs.Common.{◌<◌, ◌≤◌, length, sym, ap, subst, List, ℕ}
+use Rattle.std.proofs.Common.{◌<◌, ◌≤◌, length, sym, subst, List, ℕ}
 use Rattle.std.proofs.lemmas.Result.{IfOk-weaker}
 use Rattle.std.specs.Prelude.{None, slice_index, slice_index_or}
-use Rattle.rl_store.specs.Opening.{Filled, Made, OpensWith, made_of}
+use Rattle.rl_store.specs.Opening.{Filled, Made, OpensWith}
 use Rattle.rl_store.specs.Layout.{FitsColumns}
 use Rattle.rl_store.proofs.Filling.{can_open, opens_with, past_end}
 use Rattle.rl_store.proofs.store.Store.make.Goals as goal

@@ -1,4 +1,4 @@
-use Rattle.std.proofs.Common.{ap, ◌∙◌, sym, subst, arith, List}
+use Rattle.std.proofs.Common.{ap, ◌∙◌, subst, arith, List}
 use Rattle.rl_store.specs.declared.view.Read.{Read}
 use Rattle.rl_store.specs.Entries.{In}
 use Rattle.rl_store.proofs.store.Store.observe.Goals as goal

@@ -1,4 +1,4 @@
-use Rattle.std.proofs.Common.{ap, sym, ◌∙◌, subst, arith}
+use Rattle.std.proofs.Common.{ap, sym, ◌∙◌, subst}
 use Rattle.rl_store.specs.declared.view.View.{View}
 use Rattle.rl_store.specs.Entries.{IsDecided}
 use Rattle.rl_store.proofs.Calls.{some_words}
