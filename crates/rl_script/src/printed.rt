@@ -17,6 +17,7 @@ use rl_base::list::Bytes;
 use rl_base::memory::Memory;
 use rl_events::event::Event;
 use rl_events::printed::push_event;
+use rl_text::printed::push_numbers;
 use rl_txn::op::{Lists, Op, Operand, Rel, Requests, Txn};
 use rl_value::map::Map;
 use rl_value::row::Row;
@@ -39,16 +40,6 @@ fn push_operands(out: &mut String, operands: &[Operand]) -> Result<(), AllocErro
 {
     for operand in operands {
         push_operand(out, *operand)?;
-    }
-    Ok(())
-}
-
-/// Numbers, each after a space.
-fn push_numbers(out: &mut String, numbers: &[u64]) -> Result<(), AllocError>
-    ensures { OnOk result (string_bytes out.new ≡ string_bytes out.old ++ flat_map (λ n. 32 ∷ decimal n) numbers.now) }
-{
-    for n in numbers {
-        write!(out, " {n}")?;
     }
     Ok(())
 }

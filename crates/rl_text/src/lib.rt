@@ -2,4 +2,5 @@
 #![tactic(auto)]
 
 pub mod number;
+pub mod printed;
 pub mod text;

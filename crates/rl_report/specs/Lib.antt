@@ -1,0 +1,4 @@
+pub mod Lines
+pub mod Printed
+pub mod Forms
+pub mod Parts
