@@ -1,0 +1,4 @@
+pub mod ExamplesElections
+pub mod ExamplesOneLeader
+pub mod Listed
+pub mod Scripts
