@@ -1,0 +1,5 @@
+pub mod ExamplesElections
+pub mod ExamplesFaults
+pub mod ExamplesOneLeader
+pub mod Listed
+pub mod Scripts

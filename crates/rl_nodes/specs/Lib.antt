@@ -1,0 +1,15 @@
+pub mod Answers
+pub mod BadMessages
+pub mod Batches
+pub mod Elections
+pub mod Events
+pub mod Handles
+pub mod Laws
+pub mod Nodes
+pub mod Openings
+pub mod Reports
+pub mod Safe
+pub mod Setups
+pub mod Views
+pub mod Works
+pub mod World
