@@ -21,7 +21,7 @@ use Rattle.rl_worker.specs.Told.{found, word, act_of}
 use Rattle.rl_worker.specs.Attempts.{refusal_of, IsAct, next_after}
 use Rattle.rl_worker.specs.Workers.{part_phase, commit_phase, stamp_next, RecordsFit}
 use Rattle.rl_txn.specs.Fits.{WriteFits, RowHas}
-use Rattle.rl_worker.proofs.Places.{place_of_record}
+use Rattle.rl_tables.proofs.Places.{place_of_record}
 use Rattle.rl_worker.proofs.Settings.{sizes_length}
 
 lt_is_true : (a b : ℕ) → a < b → nat_lt a b ≡ true

@@ -36,7 +36,6 @@ pub mod Numbers
 pub mod Openings
 pub mod OwnLaw
 pub mod Parts
-pub mod Places
 pub mod Readings
 pub mod Scripts
 pub mod Serial

@@ -5,7 +5,7 @@ use Rattle.rl_txn.specs.Eval.{rows_of, wants, known, HasRows}
 use Rattle.rl_txn.proofs.Evals.{has_rows_of}
 use Rattle.rl_worker.specs.Opening.{overlay_of}
 use Rattle.rl_worker.specs.Workers.{ReadFits, PartFits, HasMore}
-use Rattle.rl_worker.proofs.Places.{place_of_record}
+use Rattle.rl_tables.proofs.Places.{place_of_record}
 use Rattle.rl_worker.proofs.Settings.{sizes_length}
 use Rattle.rl_worker.proofs.Endings.{ended_phase, writes_fit}
 use Rattle.rl_worker.proofs.worker.Worker.run_on.Goals as goal
