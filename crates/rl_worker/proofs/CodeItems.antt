@@ -12,11 +12,7 @@ use Rattle.rl_worker.specs.Items.{CoreItem, insert_by_stamp}
 use Rattle.rl_worker.specs.Acts.{CoreRefusal, Core}
 use Rattle.rl_worker.specs.Opening.{install_of, item_seen, items_seen}
 use Rattle.rl_worker.specs.Told.{refused}
-use Rattle.rl_worker.specs.Workers.{phase_of_worker, number_of, epoch_of, next_of, decided_item, Stands, HasDecided, either, newly_decided, with_item, stamp_made, IsItemOf, Steps}
-
--- an item as the core has it
-abbrev pub core_item : List Table → txn.Item → CoreItem
-core_item tables x = record { stamp = packed x.stamp; worker = x.worker; index = x.index; answer = (x.reply, x.writes); writes = map (install_of tables) x.writes }
+use Rattle.rl_worker.specs.Workers.{core_item, phase_of_worker, number_of, epoch_of, next_of, decided_item, Stands, HasDecided, either, newly_decided, with_item, stamp_made, IsItemOf, Steps}
 
 -- an item of the worker's epoch and request
 abbrev pub IsOf : Worker → txn.Item → Type 0
@@ -41,6 +37,8 @@ pub record CodeSteps (tables : List Table) (old new : Worker) (words : Words) (t
   pub stamped : IfSome (newly_decided old new told) (IsOf old)
   pub made : core'.made ≡ option_to_list (option_map stamp_by (newly_decided old new told)) ++ core.made
   pub ended : IfSome told.ended (λ x. decided_item new ≡ None)
+  pub core_ended : core'.ended ≡ option_to_list (option_map (core_item tables) told.ended) ++ core.ended
+  pub ended_of : IfSome told.ended (IsOf old)
   pub index : next_of new ≡ next_of old + (if is_some told.ended then 1 else 0)
 
 -- an item that joins is there
@@ -107,6 +105,9 @@ seen_steps tables old new words told core core' t =
       seen = seen_if tables old newly t.stamped;
       kept = t.kept;
       ended = t.ended;
+      over = option_map (core_item tables) told.ended;
+      core_ended = t.core_ended;
+      ended_seen = seen_if tables old told.ended t.ended_of;
       has_decided = has_decided tables old new told core core' t.epoch t.decided t.stamped (decided_item old) (decided_item new) told.ended refl refl refl t.kept t.ended;
       refusal = t.refusal;
       refusals = t.refusals;

@@ -45,8 +45,8 @@ module _ (S : Setting) (t : ℕ) where
     later (Validating q u done (y ∷ todo) answer writes) a x = by_test (λ z. Later (Validating q u done (y ∷ todo) answer writes) z) (other w x.holder) _ _ (λ f. (refl, omega arith, λ h. tt))
         (λ f. by_test (λ z. Later (Validating q u done (y ∷ todo) answer writes) z) (x.stamp == y.seen) _ _ (λ g. (refl, omega arith, λ h. h)) (λ g. (refl, omega arith, λ h. tt)))
     later (Validating q u done [] answer writes) a x = (early_place t (record { stamp = u; worker = w; index = q; answer = answer; writes = writes }) c.decided a, omega arith, λ h. tt)
-    later (Storing q u j (y ∷ todo)) a x = by_test (λ z. Later (Storing q u j (y ∷ todo)) z) (nat_lt j (length y.row)) _ _ (λ g. (refl, omega arith, λ h. tt)) (λ g. (refl, omega arith, λ h. tt))
-    later (Storing q u j []) a x = (refl, omega arith, λ h. tt)
+    later (Storing item j (y ∷ todo)) a x = by_test (λ z. Later (Storing item j (y ∷ todo)) z) (nat_lt j (length y.row)) _ _ (λ g. (refl, omega arith, λ h. tt)) (λ g. (refl, omega arith, λ h. tt))
+    later (Storing item j []) a x = (refl, omega arith, λ h. tt)
     later (Refusing q (y ∷ todo)) a x = (refl, omega arith, λ h. tt)
     later (Refusing q []) a x = (refl, omega arith, λ h. tt)
 

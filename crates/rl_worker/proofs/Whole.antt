@@ -117,7 +117,7 @@ module _ (G : Ground) (L : Lawful G) (first : ℕ → ℕ) where
   knows_rest σ w (Loading q reads r seen loaded) h = absurd (true≢false (sym h))
   knows_rest σ w (Locking q reads answer locked todo) h = absurd (true≢false (sym h))
   knows_rest σ w (Validating q t done todo answer writes) h = absurd (true≢false (sym h))
-  knows_rest σ w (Storing q t j todo) h = absurd (true≢false (sym h))
+  knows_rest σ w (Storing item j todo) h = absurd (true≢false (sym h))
   knows_rest σ w (Refusing q todo) h = absurd (true≢false (sym h))
 
   none_yet : ℕ → Entry
@@ -152,7 +152,7 @@ module _ (G : Ground) (L : Lawful G) (first : ℕ → ℕ) where
   latest_rest (Loading q reads r seen loaded) w n h = absurd (true≢false (sym h))
   latest_rest (Locking q reads answer locked todo) w n h = absurd (true≢false (sym h))
   latest_rest (Validating q t done todo answer writes) w n h = absurd (true≢false (sym h))
-  latest_rest (Storing q t j todo) w n h = absurd (true≢false (sym h))
+  latest_rest (Storing item j todo) w n h = absurd (true≢false (sym h))
   latest_rest (Refusing q todo) w n h = absurd (true≢false (sym h))
 
   opening_fine : (recs : List Rec) (workers : List Phase) → Opens G recs workers → ((w : ℕ) → w < length workers → get_or workers w (Rest 0) ≡ Rest (first w)) → Fine (opening_core G.setting recs workers)

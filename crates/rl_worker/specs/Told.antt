@@ -48,7 +48,7 @@ act_of n (Loading q reads r seen loaded) x =
 act_of n (Locking q reads answer locked []) x = act.Draw n
 act_of n (Locking q reads answer locked (y ∷ todo)) x = act.Lock y.rec (word x)
 act_of n (Validating q t done (y ∷ todo) answer writes) x = act.Validate y.rec (word x)
-act_of n (Storing q t j (y ∷ todo)) x =
-    if nat_lt j (length y.row) then act.ColumnStore y.rec j (get_or y.row j 0) else act.Close y.rec (2 * t)
+act_of n (Storing item j (y ∷ todo)) x =
+    if nat_lt j (length y.row) then act.ColumnStore y.rec j (get_or y.row j 0) else act.Close y.rec (2 * item.stamp)
 act_of n (Refusing q (y ∷ todo)) x = act.Close y.rec (2 * x.stamp)
 act_of n p x = act.Rest

@@ -35,6 +35,16 @@ reading_phase q r =
 abbrev pub installs : List Table → Commit → List Install
 installs tables c = map (install_of tables) c.item.writes
 
+-- a decided item as the core has it
+abbrev pub core_item : List Table → Item → CoreItem
+core_item tables x = record {
+  stamp = packed x.stamp;
+  worker = x.worker;
+  index = x.index;
+  answer = (x.reply, x.writes);
+  writes = map (install_of tables) x.writes;
+}
+
 -- the phase of a commit, by its part
 abbrev pub part_phase : List Table → Commit → Part → Phase
 part_phase tables c (part.Locking held) =
@@ -44,7 +54,7 @@ part_phase tables c (part.Validating done) =
     Validating c.item.index (packed c.item.stamp) (take done c.reads.0) (drop done c.reads.0)
     (c.item.reply, c.item.writes) (installs tables c)
 part_phase tables c (part.Storing closed stored) =
-    Storing c.item.index (packed c.item.stamp) stored (drop closed (installs tables c))
+    Storing (core_item tables c.item) stored (drop closed (installs tables c))
 part_phase tables c (part.Refusing closed held) =
     Refusing c.item.index (drop closed (take held (installs tables c)))
 
@@ -218,6 +228,10 @@ pub record Steps (tables : List Table) (old new : Worker) (words : Words) (told 
   pub seen : newly_decided old new told ≡ option_map (item_seen (epoch_of old)) item
   pub kept : IfSome (decided_item old) (λ x. either told.ended (decided_item new) ≡ Some x)
   pub ended : IfSome told.ended (λ x. decided_item new ≡ None)
+  -- the core ended an item or none, and it is what the code ended, as it is seen
+  pub over : Option CoreItem
+  pub core_ended : core'.ended ≡ option_to_list over ++ core.ended
+  pub ended_seen : told.ended ≡ option_map (item_seen (epoch_of old)) over
   pub has_decided : HasDecided core old → HasDecided core' new
   -- the core refused an attempt of this worker's request or none, and it is what the code refused, as it is told
   pub refusal : Option CoreRefusal
