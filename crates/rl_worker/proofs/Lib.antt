@@ -33,9 +33,11 @@ pub mod Lift
 pub mod Local
 pub mod Made
 pub mod Numbers
+pub mod OneStep
 pub mod Openings
 pub mod OwnLaw
 pub mod Parts
+pub mod Ranges
 pub mod Readings
 pub mod Scripts
 pub mod Serial

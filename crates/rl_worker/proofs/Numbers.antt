@@ -40,19 +40,19 @@ Latest (Validating q t done todo answer writes) w xs n = (t < n) × BelowOf w t 
 Latest (Storing item j todo) w xs n = ℕ
 Latest (Refusing q todo) w xs n = ℕ
 
-below_of : (w t : ℕ) (xs : List CoreItem) → AllBelow t xs → BelowOf w t xs
+pub below_of : (w t : ℕ) (xs : List CoreItem) → AllBelow t xs → BelowOf w t xs
 below_of w t [] h = 0
 below_of w t (x ∷ xs) h = (λ e. h.0, below_of w t xs h.1)
 
-all_below_up : (t u : ℕ) (xs : List CoreItem) → t ≤ u → AllBelow t xs → AllBelow u xs
+pub all_below_up : (t u : ℕ) (xs : List CoreItem) → t ≤ u → AllBelow t xs → AllBelow u xs
 all_below_up t u [] l h = 0
 all_below_up t u (x ∷ xs) l h = (omega (arith, h.0), all_below_up t u xs l h.1)
 
-all_below_place : (t : ℕ) (x : CoreItem) (xs : List CoreItem) → x.stamp < t → AllBelow t xs → AllBelow t (insert_by_stamp x xs)
+pub all_below_place : (t : ℕ) (x : CoreItem) (xs : List CoreItem) → x.stamp < t → AllBelow t xs → AllBelow t (insert_by_stamp x xs)
 all_below_place t x [] l h = (l, 0)
 all_below_place t x (y ∷ ys) l h = by_test (λ z. AllBelow t z) (nat_lt x.stamp y.stamp) (x ∷ y ∷ ys) (y ∷ insert_by_stamp x ys) (λ e. (l, h)) (λ e. (h.0, all_below_place t x ys l h.1))
 
-below_of_place : (w t : ℕ) (x : CoreItem) (xs : List CoreItem) → x.worker ≢ w → BelowOf w t xs → BelowOf w t (insert_by_stamp x xs)
+pub below_of_place : (w t : ℕ) (x : CoreItem) (xs : List CoreItem) → x.worker ≢ w → BelowOf w t xs → BelowOf w t (insert_by_stamp x xs)
 below_of_place w t x [] n h = (λ e. absurd (n e), 0)
 below_of_place w t x (y ∷ ys) n h = by_test (λ z. BelowOf w t z) (nat_lt x.stamp y.stamp) (x ∷ y ∷ ys) (y ∷ insert_by_stamp x ys) (λ e. (λ i. absurd (n i), h)) (λ e. (h.0, below_of_place w t x ys n h.1))
 

@@ -2,6 +2,7 @@ pub mod Acts
 pub mod Attempts
 pub mod Items
 pub mod Laws
+pub mod OneTurn
 pub mod Opening
 pub mod Phases
 pub mod Told

@@ -1,6 +1,7 @@
 //! What holds of all workers of an open leader together.
 
 ghost use Rattle.rl_worker.specs.Laws.{DecidesSerially, ItemsFollowOn, CausesAreTrue, StampsRise, StampsStayBelow, SettledStays};
+ghost use Rattle.rl_worker.specs.OneTurn.{StepsAreOne, StampsStayInRange, ItemsEndInOrder};
 
 /// The law of the core, for every list of steps and idle draws of all workers, from records with
 /// stamps of earlier epochs: what is decided is serial by stamp, each worker's items follow on
@@ -15,4 +16,18 @@ pub fn core_serial()
     ensures rising { StampsRise }
     ensures below { StampsStayBelow }
     ensures settled { SettledStays }
+{}
+
+/// One step of a worker adds the same item or none to what is decided and to what was made, an item or none to what has
+/// ended, and a refusal or none; it draws at most one stamp, and changes no other worker.
+pub fn one_step()
+    ensures { StepsAreOne }
+{}
+
+/// After any steps and idle draws the stamps are in the range of their epoch: from that of seq 2 up to the next, which is at
+/// most that of the end mark; and what is decided was made. Each worker's decided items, by stamp, are those that have ended, in
+/// the order in which they did, and then the one that it installs.
+pub fn ranges()
+    ensures in_range { StampsStayInRange }
+    ensures end_in_order { ItemsEndInOrder }
 {}

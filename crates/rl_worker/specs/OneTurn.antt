@@ -1,0 +1,69 @@
+-- What one step adds to a core, and what any turns keep in range.
+use Rattle.std.specs.Prelude.{◌≡◌, ℕ, suc, ◌+◌, ◌-◌, ◌*◌, ◌^◌, ◌<◌, ◌≤◌, List, [], ◌∷◌, ◌++◌, length, set, reverse, ◌==◌, if◌then◌else◌, Option, Some, None, IfSome, option_to_list, All, Contains}
+use Rattle.std.specs.Option.{option_map}
+use Rattle.rl_worker.specs.Items.{CoreItem}
+use Rattle.rl_worker.specs.Phases.{Phase, Storing, Setting}
+use Rattle.rl_worker.specs.Acts.{CoreRefusal, Core, Turn, phase_of, step}
+use Rattle.rl_worker.specs.Opening.{OpenLeader, core_after}
+use Rattle.rl_worker.specs.Workers.{with_item, stamp_made}
+
+-- ---- one step ----
+-- a step of worker w: it changes no other worker, draws at most one stamp, and adds an item or none to what is decided
+-- and made, an item or none to what has ended, and a refusal or none
+pub record IsOneStep (w : ℕ) (c c' : Core) : Type 0 where
+  pub workers : c'.workers ≡ set c.workers w (phase_of c' w)
+  pub item : Option CoreItem
+  pub decided : c'.decided ≡ with_item item c.decided
+  pub made : c'.made ≡ option_to_list (option_map stamp_made item) ++ c.made
+  pub of_item : IfSome item (λ x. x.worker ≡ w)
+  pub over : Option CoreItem
+  pub ended : c'.ended ≡ option_to_list over ++ c.ended
+  pub refusal : Option CoreRefusal
+  pub refusals : c'.refusals ≡ option_to_list refusal ++ c.refusals
+  pub of_refusal : IfSome refusal (λ f. f.worker ≡ w)
+  pub next_low : c.next ≤ c'.next
+  pub next_high : c'.next ≤ suc c.next
+
+-- each step of a worker that is there is one
+abbrev pub StepsAreOne : Type 0
+StepsAreOne = (S : Setting) (core : Core) (w : ℕ) → w < length core.workers → IsOneStep w core (step S core w)
+
+-- ---- any turns ----
+-- a worker that is there made a stamp from one on, below another
+pub record MadeBetween (workers low high : ℕ) (made : ℕ × ℕ) : Type 0 where
+  pub first : 1 ≤ made.0
+  pub there : made.0 ≤ workers
+  pub above : low ≤ made.1
+  pub below : made.1 < high
+
+-- the next stamp is from the first of the epoch up to the end mark's, and past the first by no more than the turns; what was
+-- made lies between; and what is decided was made
+pub record IsInRange (l : OpenLeader) (turns : ℕ) (c : Core) : Type 0 where
+  pub low : l.epoch * 2 ^ 40 + 2 ≤ c.next
+  pub high : c.next ≤ l.epoch * 2 ^ 40 + (2 ^ 40 - 1)
+  pub few : c.next ≤ l.epoch * 2 ^ 40 + 2 + turns
+  pub made : All (MadeBetween (length l.firsts) (l.epoch * 2 ^ 40 + 2) c.next) c.made
+  pub decided : All (λ x. Contains c.made (stamp_made x)) c.decided
+
+-- stamps stay in the range of their epoch
+abbrev pub StampsStayInRange : Type 0
+StampsStayInRange = (l : OpenLeader) (turns : List Turn) → IsInRange l (length turns) (core_after l turns)
+
+-- the items of one worker
+abbrev pub items_by : (w : ℕ) → List CoreItem → List CoreItem
+items_by w [] = []
+items_by w (x ∷ xs) = if x.worker == w then x ∷ items_by w xs else items_by w xs
+
+-- the item that a worker installs: decided, and not ended yet
+abbrev pub installing : Phase → Option CoreItem
+installing (Storing item j todo) = Some item
+installing p = None
+
+-- the items of a worker that have ended, in their order
+abbrev pub ended_by : (w : ℕ) → Core → List CoreItem
+ended_by w c = reverse (items_by w c.ended)
+
+-- a worker's decided items, by stamp, are those that have ended, in the order in which they did, and the one that it installs
+abbrev pub ItemsEndInOrder : Type 0
+ItemsEndInOrder = (l : OpenLeader) (turns : List Turn) (w : ℕ) → let c = core_after l turns in
+    items_by w c.decided ≡ ended_by w c ++ option_to_list (installing (phase_of c w))
