@@ -51,7 +51,7 @@ contains_new f x (y ∷ ys) = go (nat_lt x.stamp y.stamp) (contains_new f x ys)
     go false h = (suc h.0, omega (arith, h.1), h.2)
 
 -- an item of the worker's epoch is seen as it was
-seen_again : (tables : List Table) (w : Worker) (x : txn.Item) → IsOf w x → item_seen (epoch_of w) (core_item tables x) ≡ x
+pub seen_again : (tables : List Table) (w : Worker) (x : txn.Item) → IsOf w x → item_seen (epoch_of w) (core_item tables x) ≡ x
 seen_again tables w x h =
     let seq : packed x.stamp - w.epoch * 2 ^ 40 ≡ x.stamp.seq = omega (arith, ap (λ e. e * 2 ^ 40) h.0) in
     λ i. record { stamp = record { epoch = sym h.0 i; seq = seq i }; worker = x.worker; index = x.index; reply = x.reply; writes = x.writes }

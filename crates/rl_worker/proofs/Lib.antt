@@ -34,6 +34,7 @@ pub mod Local
 pub mod Made
 pub mod Numbers
 pub mod OneStep
+pub mod OpenItems
 pub mod Openings
 pub mod OwnLaw
 pub mod Parts

@@ -1,11 +1,14 @@
 -- What one step adds to a core, and what any turns keep in range.
 use Rattle.std.specs.Prelude.{◌≡◌, ℕ, suc, ◌+◌, ◌-◌, ◌*◌, ◌^◌, ◌<◌, ◌≤◌, List, [], ◌∷◌, ◌++◌, length, set, reverse, ◌==◌, if◌then◌else◌, Option, Some, None, IfSome, option_to_list, All, Contains}
 use Rattle.std.specs.Option.{option_map}
+use Rattle.rl_value.specs.Tables.{Table}
+use Rattle.rl_txn.specs.declared.op.Op.{Op}
 use Rattle.rl_worker.specs.Items.{CoreItem}
 use Rattle.rl_worker.specs.Phases.{Phase, Storing, Setting}
 use Rattle.rl_worker.specs.Acts.{CoreRefusal, Core, Turn, phase_of, step}
-use Rattle.rl_worker.specs.Opening.{OpenLeader, core_after}
-use Rattle.rl_worker.specs.Workers.{with_item, stamp_made}
+use Rattle.rl_worker.specs.Opening.{OpenLeader, core_after, item_seen}
+use Rattle.rl_worker.specs.Workers.{phase_of_worker, epoch_of, decided_item, WorkerFits, with_item, stamp_made}
+use Rattle.rl_worker.specs.declared.worker.Worker.{Worker}
 
 -- ---- one step ----
 -- a step of worker w: it changes no other worker, draws at most one stamp, and adds an item or none to what is decided
@@ -67,3 +70,8 @@ ended_by w c = reverse (items_by w c.ended)
 abbrev pub ItemsEndInOrder : Type 0
 ItemsEndInOrder = (l : OpenLeader) (turns : List Turn) (w : ℕ) → let c = core_after l turns in
     items_by w c.decided ≡ ended_by w c ++ option_to_list (installing (phase_of c w))
+
+-- a worker's decided item that has not ended is the one that it installs, as it is seen
+abbrev pub OpenItemsAreInstalled : Type 0
+OpenItemsAreInstalled = (tables : List Table) (lists : List (List (List Op))) (w : Worker) → WorkerFits tables lists w
+    → decided_item w ≡ option_map (item_seen (epoch_of w)) (installing (phase_of_worker tables w))

@@ -1,7 +1,7 @@
 //! What holds of all workers of an open leader together.
 
 ghost use Rattle.rl_worker.specs.Laws.{DecidesSerially, ItemsFollowOn, CausesAreTrue, StampsRise, StampsStayBelow, SettledStays};
-ghost use Rattle.rl_worker.specs.OneTurn.{StepsAreOne, StampsStayInRange, ItemsEndInOrder};
+ghost use Rattle.rl_worker.specs.OneTurn.{StepsAreOne, StampsStayInRange, ItemsEndInOrder, OpenItemsAreInstalled};
 
 /// The law of the core, for every list of steps and idle draws of all workers, from records with
 /// stamps of earlier epochs: what is decided is serial by stamp, each worker's items follow on
@@ -30,4 +30,10 @@ pub fn one_step()
 pub fn ranges()
     ensures in_range { StampsStayInRange }
     ensures end_in_order { ItemsEndInOrder }
+{}
+
+/// The decided item of a worker's attempt that has not ended is the item that the worker installs in the core, as it is
+/// seen; elsewhere there is none.
+pub fn open_items()
+    ensures { OpenItemsAreInstalled }
 {}
