@@ -45,6 +45,7 @@ pub mod Serial
 pub mod Settings
 pub mod Settled
 pub mod Stages
+pub mod Stamping
 pub mod Stamps
 pub mod States
 pub mod Steps

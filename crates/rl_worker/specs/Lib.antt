@@ -5,5 +5,6 @@ pub mod Laws
 pub mod OneTurn
 pub mod Opening
 pub mod Phases
+pub mod Stamping
 pub mod Told
 pub mod Workers

@@ -2,6 +2,7 @@
 
 ghost use Rattle.rl_worker.specs.Laws.{DecidesSerially, ItemsFollowOn, CausesAreTrue, StampsRise, StampsStayBelow, SettledStays};
 ghost use Rattle.rl_worker.specs.OneTurn.{StepsAreOne, StampsStayInRange, ItemsEndInOrder, OpenItemsAreInstalled};
+ghost use Rattle.rl_worker.specs.Stamping.{EachRecordOpens, OpeningStampsAreEarly, FittingWritesAreThere};
 
 /// The law of the core, for every list of steps and idle draws of all workers, from records with
 /// stamps of earlier epochs: what is decided is serial by stamp, each worker's items follow on
@@ -36,4 +37,12 @@ pub fn ranges()
 /// seen; elsewhere there is none.
 pub fn open_items()
     ensures { OpenItemsAreInstalled }
+{}
+
+/// The stamps with which an epoch opens: one for each record, and below any that all items of the opening list are below.
+/// The records that such items write are there where they fit the tables.
+pub fn opening_stamps()
+    ensures each { EachRecordOpens }
+    ensures early { OpeningStampsAreEarly }
+    ensures there { FittingWritesAreThere }
 {}
