@@ -8,7 +8,7 @@ use Rattle.std.specs.Ordering.{eq_by_cmp}
 use Rattle.std.specs.declared.cmp.Ordering.{Ordering}
 use Rattle.std.specs.declared.cmp.Ordering.TheVariants.{Less, Equal, Greater}
 use Rattle.std.proofs.lemmas.List.{length-map}
-use Rattle.std.proofs.lemmas.List.Elements.{All-cons, All-from_recursion, recursion_from_All}
+use Rattle.std.proofs.lemmas.List.Elements.{All-cons, recursion_from_All}
 use Rattle.std.proofs.lemmas.List.Kept.{AllPairs-cons}
 use Rattle.rl_base.proofs.Tests.{true_lt, first_T, second_T, is_less, is_equal}
 use Rattle.rl_value.specs.Fits.{RowsFit}
@@ -16,7 +16,7 @@ use Rattle.rl_value.specs.Rows.{Rows, place_cmp}
 use Rattle.rl_value.specs.Tables.{Table, size_of, columns_of}
 use Rattle.rl_value.proofs.PlacesLemmas.{places_total, same_place}
 use Rattle.rl_txn.specs.Fits.{OpFits, TxnFits, ListsFit, RowHas, WriteFits, IsPlaceBelow, EndFits, WritesIfDone, AnswerFits, ItemFits, ItemWritesFit}
-use Rattle.rl_txn.specs.Run.{Overlay, Progress, value_of, only_if, op_done, passes, ops_done, beginning, run, write_of, writes_of}
+use Rattle.rl_txn.specs.Run.{Progress, value_of, only_if, op_done, passes, ops_done, beginning, run, write_of, writes_of}
 use Rattle.rl_txn.specs.Serial.{numbered, request_of, put_or_remove, with_write, after_writes, rows_after, Runs}
 use Rattle.rl_txn.specs.declared.item.Item.{Item}
 use Rattle.rl_txn.specs.declared.op.Op.{Op}

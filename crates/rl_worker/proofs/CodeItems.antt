@@ -1,5 +1,5 @@
 -- A step told by the code's item, and then by the core's.
-use Rattle.std.proofs.Common.{◌≡◌, ℕ, zero, suc, ◌+◌, ◌-◌, ◌*◌, ◌^◌, ◌<◌, ◌≤◌, List, [], ◌∷◌, ◌++◌, length, map, set, Bool, true, false, nat_lt, is_some, if◌then◌else◌, Option, Some, None, IfSome, option_to_list, refl, sym, ap, ◌∙◌, subst, arith}
+use Rattle.std.proofs.Common.{◌≡◌, ℕ, suc, ◌+◌, ◌-◌, ◌*◌, ◌^◌, List, [], ◌∷◌, ◌++◌, map, set, Bool, true, false, nat_lt, is_some, if◌then◌else◌, Option, Some, None, IfSome, option_to_list, refl, sym, ap, ◌∙◌, subst, arith}
 use Rattle.std.specs.List.{Contains}
 use Rattle.std.specs.Option.{option_map}
 use Rattle.rl_base.specs.Stamps.{packed}
@@ -10,9 +10,9 @@ use Rattle.rl_worker.specs.declared.words.Words.{Words}
 use Rattle.rl_worker.specs.declared.worker.Worker.{Worker}
 use Rattle.rl_worker.specs.Items.{CoreItem, insert_by_stamp}
 use Rattle.rl_worker.specs.Acts.{CoreRefusal, Core}
-use Rattle.rl_worker.specs.Opening.{install_of, item_seen, items_seen}
+use Rattle.rl_worker.specs.Opening.{item_seen, items_seen}
 use Rattle.rl_worker.specs.Told.{refused}
-use Rattle.rl_worker.specs.Workers.{core_item, phase_of_worker, number_of, epoch_of, next_of, decided_item, Stands, HasDecided, either, newly_decided, with_item, stamp_made, IsItemOf, Steps}
+use Rattle.rl_worker.specs.Workers.{core_item, phase_of_worker, number_of, epoch_of, next_of, decided_item, Stands, either, newly_decided, with_item, stamp_made, IsItemOf, Steps}
 
 -- an item of the worker's epoch and request
 abbrev pub IsOf : Worker → txn.Item → Type 0

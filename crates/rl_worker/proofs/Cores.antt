@@ -5,7 +5,7 @@ use Rattle.std.specs.Option.{option_map}
 use Rattle.std.proofs.lemmas.List.{get_or-set_same, length-set, set-set, set-get_or}
 use Rattle.rl_worker.specs.declared.act.Moved as code
 use Rattle.rl_worker.specs.declared.words.Words.{Words}
-use Rattle.rl_worker.specs.Phases.{Answer, Read, Install, Rec, Phase, Rest, Asking, Wanting, Loading, Locking, Validating, Storing, Refusing, Setting, other, asked, with_read}
+use Rattle.rl_worker.specs.Phases.{Rec, Phase, Rest, Asking, Wanting, Loading, Locking, Validating, Storing, Refusing, Setting, other, asked, with_read}
 use Rattle.rl_worker.specs.Items.{CoreItem}
 use Rattle.rl_worker.specs.Acts.{Cause, Locked, Changed, Effect, Quiet, Drew, Won, Ended, Lost, Core, no_rec, target, quiet, lost, act_result, passing, resting, micro, settle}
 use Rattle.rl_worker.proofs.Parts.{micro_parts, decided_after, ended_after, refusals_after, made_after}

@@ -41,6 +41,7 @@ pub mod Parts
 pub mod Ranges
 pub mod Readings
 pub mod Scripts
+pub mod Seen
 pub mod Serial
 pub mod Settings
 pub mod Settled

@@ -1,5 +1,5 @@
 -- Each worker's stamps rise, over its items and idle draws.
-use Rattle.std.proofs.Common.{◌≡◌, ◌≢◌, ℕ, zero, suc, ◌<◌, ◌≤◌, List, [], ◌∷◌, length, get_or, true, ◌==◌, nat_lt, Option, Some, None, refl, sym, ap, subst, arith, inl, inr, true≢false, length-set, is_some}
+use Rattle.std.proofs.Common.{◌≡◌, ◌≢◌, ℕ, suc, ◌<◌, ◌≤◌, List, [], ◌∷◌, length, get_or, true, ◌==◌, nat_lt, refl, sym, ap, subst, arith, inl, inr, true≢false, length-set, is_some}
 use Rattle.std.proofs.lemmas.Bool.Decides.{eqb_tells}
 use Rattle.rl_worker.proofs.States.{Answer, Read, Install, Rec, Outcome, Wants, Ends, Phase, Rest, Asking, Wanting, Loading, Locking, Validating, Storing, Refusing, Setting, asked, other, upd}
 use Rattle.rl_worker.specs.Acts.{ActResult, target, act_result, Core, no_rec, phase_of, opening_core, idle, resting, micro, passing, settle, begin, step, is_done, may, Turn, Step, Idle, turn, after_turns}

@@ -1,13 +1,20 @@
 -- What one step adds to a core.
-use Rattle.std.proofs.Common.{◌≡◌, ℕ, suc, ◌+◌, ◌<◌, ◌≤◌, List, [], ◌∷◌, ◌++◌, length, get_or, set, Bool, true, false, nat_lt, is_some, ◌==◌, if◌then◌else◌, Option, Some, None, IfSome, option_to_list, refl, sym, ap, ◌∙◌, subst, arith, length-set}
+use Rattle.std.proofs.Common.{◌≡◌, ℕ, suc, ◌<◌, ◌≤◌, List, [], ◌∷◌, ◌++◌, length, get_or, set, false, slice_get, nat_lt, is_some, ◌==◌, if◌then◌else◌, Option, Some, None, IfSome, option_to_list, refl, sym, ap, ◌∙◌, subst, arith, length-set}
 use Rattle.std.specs.Option.{option_map}
 use Rattle.std.proofs.lemmas.List.{set-set, set-get_or, get_or-set_same}
 use Rattle.rl_worker.specs.Items.{CoreItem}
-use Rattle.rl_worker.specs.Phases.{Answer, Read, Install, Rec, Outcome, Wants, Ends, Phase, Rest, Asking, Wanting, Loading, Locking, Validating, Storing, Refusing, Setting, asked, other, with_read}
-use Rattle.rl_worker.specs.Acts.{CoreRefusal, Cause, Locked, Changed, Effect, Quiet, Drew, Won, Ended, Lost, ActResult, Core, no_rec, target, quiet, lost, act_result, phase_of, micro, passing, resting, settle, begin, step, is_done}
+use Rattle.rl_worker.specs.Phases.{Read, Install, Rec, Outcome, Wants, Ends, Phase, Rest, Asking, Wanting, Loading, Locking, Validating, Storing, Refusing, Setting, asked, other, with_read}
+use Rattle.rl_worker.specs.Acts.{CoreRefusal, Cause, Locked, Changed, Drew, Won, Ended, ActResult, Core, no_rec, target, quiet, lost, act_result, phase_of, micro, resting, settle, begin, step, is_done}
 use Rattle.rl_worker.specs.Attempts.{next_after}
-use Rattle.rl_worker.specs.Workers.{with_item, stamp_made}
-use Rattle.rl_worker.specs.OneTurn.{IsOneStep}
+use Rattle.rl_base.proofs.Tests.{lt_true, lt_false}
+use Rattle.rl_value.specs.Tables.{Table}
+use Rattle.rl_worker.specs.declared.act.Moved.{Moved}
+use Rattle.rl_worker.specs.declared.words.Words.{Words}
+use Rattle.rl_worker.specs.declared.worker.Worker.{Worker}
+use Rattle.rl_worker.specs.Opening.{item_seen}
+use Rattle.rl_worker.specs.Told.{refused}
+use Rattle.rl_worker.specs.Workers.{Steps, epoch_of, with_item, stamp_made}
+use Rattle.rl_worker.specs.OneTurn.{IsOneStep, TellsNews}
 use Rattle.rl_worker.proofs.Basics.{by_test}
 use Rattle.rl_worker.proofs.Parts.{parts, micro_parts, step_on, decided_after, ended_after, refusals_after, made_after}
 use Rattle.rl_worker.proofs.Cores.{At, Settled, passed, wins, ends, stamps_added, settled, begun}
@@ -272,3 +279,15 @@ module _ (s : Setting) (w : ℕ) where
 
     pub one_step : IsOneStep w core (step s core w)
     one_step = by_test (IsOneStep w core) (is_done s w (phase_of core w)) core (step_on s core w) (λ t. stays_as_is) (λ t. step_on_is)
+
+-- ---- what the code tells ----
+-- one more element or none before a list is the first of what results, where that is longer
+newest : {X : Type 0} (o : Option X) (xs ys : List X) → ys ≡ option_to_list o ++ xs → (if nat_lt (length xs) (length ys) then slice_get ys 0 else None) ≡ o
+newest None xs ys e = rw (e, lt_false (length xs) (length xs) (omega arith)) refl
+newest (Some x) xs ys e = rw (e, lt_true (length xs) (length (x ∷ xs)) (omega arith)) refl
+
+pub tells_news : (tables : List Table) (old new : Worker) (words : Words) (told : Moved) (before after : Core) → Steps tables old new words told before after → TellsNews old told before after
+tells_news tables old new words told before after t = record {
+  ended = t.ended_seen ∙ ap (option_map (item_seen (epoch_of old))) (sym (newest t.over before.ended after.ended t.core_ended));
+  refused = t.refused ∙ ap (option_map refused) (sym (newest t.refusal before.refusals after.refusals t.refusals));
+}

@@ -1,5 +1,5 @@
 -- The decided item of an attempt that has not ended is the one that its worker installs.
-use Rattle.std.proofs.Common.{◌≡◌, ℕ, List, Bool, true, false, Option, Some, None, IsSomeAnd, if◌then◌else◌, refl, sym, ap, ◌∙◌, subst}
+use Rattle.std.proofs.Common.{◌≡◌, ℕ, List, Bool, true, false, Option, Some, None, IsSomeAnd, if◌then◌else◌, refl, sym, ap, ◌∙◌}
 use Rattle.std.specs.Option.{option_map}
 use Rattle.rl_value.specs.Tables.{Table}
 use Rattle.rl_txn.specs.declared.op.Op.{Op}
@@ -13,7 +13,7 @@ use Rattle.rl_worker.specs.declared.worker.Worker.{Worker}
 use Rattle.rl_worker.specs.Phases.{Wanting, Loading}
 use Rattle.rl_worker.specs.Opening.{request, item_seen}
 use Rattle.rl_worker.specs.OneTurn.{installing}
-use Rattle.rl_worker.specs.Workers.{core_item, part_phase, reading_phase, stage_phase, phase_of_worker, epoch_of, is_storing, decided_at, decided_item, StageFits, is_resting, WorkerFits}
+use Rattle.rl_worker.specs.Workers.{part_phase, reading_phase, stage_phase, phase_of_worker, epoch_of, is_storing, decided_at, decided_item, StageFits, is_resting, WorkerFits}
 use Rattle.rl_worker.proofs.CodeItems.{IsOf, seen_again}
 use Rattle.rl_worker.proofs.Steps.{is_rest}
 

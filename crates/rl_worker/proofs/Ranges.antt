@@ -1,5 +1,5 @@
 -- What any turns keep: stamps in range, decided items among what was made, and the order in which items end.
-use Rattle.std.proofs.Common.{◌≡◌, ◌≢◌, ℕ, zero, suc, ◌+◌, ◌<◌, ◌≤◌, List, [], ◌∷◌, ◌++◌, length, get_or, true, ◌==◌, ◌&&◌, nat_lt, is_some, if◌then◌else◌, reverse, Option, Some, None, IfSome, option_to_list, All, Contains, refl, sym, ap, ◌∙◌, subst, arith, inl, inr, true≢false, length-set}
+use Rattle.std.proofs.Common.{◌≡◌, ◌≢◌, ℕ, suc, ◌+◌, ◌<◌, ◌≤◌, List, [], ◌∷◌, ◌++◌, length, get_or, true, ◌==◌, ◌&&◌, nat_lt, is_some, if◌then◌else◌, reverse, None, IfSome, option_to_list, Contains, refl, sym, ap, ◌∙◌, subst, arith, inl, inr, true≢false, length-set}
 use Rattle.std.specs.List.{AllByRecursion}
 use Rattle.std.proofs.lemmas.Bool.Decides.{eqb_tells}
 use Rattle.std.proofs.lemmas.List.{append-nil, reverse-append, length-map}
@@ -13,8 +13,6 @@ use Rattle.rl_worker.specs.Opening.{OpenLeader, core_after, setting_of, opening_
 use Rattle.rl_worker.specs.OneTurn.{MadeBetween, IsInRange, items_by, installing, ended_by}
 use Rattle.rl_worker.specs.Workers.{stamp_made}
 use Rattle.rl_worker.proofs.Parts.{micro_parts, decided_after, ended_after, made_after, parts, micro_at, step_on}
-use Rattle.rl_worker.proofs.OwnLaw.{AllRest}
-use Rattle.rl_worker.proofs.Whole.{there}
 use Rattle.rl_worker.proofs.Basics.{by_upd, by_test, rest_at, upd_same, upd_other, test_lt, test_ge}
 use Rattle.rl_worker.proofs.Installs.{both}
 use Rattle.rl_worker.proofs.Lift.{set_reads}

@@ -1,6 +1,6 @@
 -- The stamps with which records open, item by item and write by write.
-use Rattle.std.proofs.Common.{◌≡◌, ℕ, zero, suc, ◌+◌, ◌<◌, ◌≤◌, List, [], ◌∷◌, ◌++◌, length, map, sum, take, set, get_or, slice_index, replicate, Bool, true, false, ◌||◌, ◌==◌, if◌then◌else◌, All, EachIndex, refl, sym, ap, ◌∙◌, subst, arith, inl, inr, length-set}
-use Rattle.std.specs.List.{list_any, range_with_len, AllByRecursion}
+use Rattle.std.proofs.Common.{◌≡◌, ℕ, ◌+◌, ◌<◌, List, [], ◌∷◌, ◌++◌, length, sum, take, set, get_or, slice_index, replicate, Bool, true, false, ◌||◌, if◌then◌else◌, All, EachIndex, refl, sym, ap, ◌∙◌, subst, arith, inl, inr}
+use Rattle.std.specs.List.{list_any, AllByRecursion}
 use Rattle.std.proofs.lemmas.Bool.Decides.{eqb_tells}
 use Rattle.std.proofs.lemmas.List.{take_more, ext_get_or, get_or-set_same, get_or-set_other, get_or-replicate, length-map, length-replicate}
 use Rattle.std.proofs.lemmas.List.FromFn.{get_or-map-range_with_len, length-map-range_with_len}
@@ -70,17 +70,17 @@ item_more sizes items i item old new l e was count each =
     let n_old : length old ≡ sum sizes = ap length was ∙ count_is sizes (take i items) in
     let n_new : length new ≡ length (opening_stamps sizes (take (i + 1) items)) = count ∙ n_old ∙ sym (count_is sizes (take (i + 1) items)) in
     ext_get_or 0 new (opening_stamps sizes (take (i + 1) items)) n_new (λ r h.
-        let within : r < sum sizes = omega (arith, h, count, n_old) in
-        each r h ∙ ap (λ z. stamp_after sizes r (get_or z r 0) item) was ∙ ap (λ z. stamp_after sizes r z item) (stamp_at sizes (take i items) r within)
-        ∙ ap (stamp_after sizes r (last_stamp sizes r 0 (take i items))) e ∙ sym (last_push sizes r 0 (take i items) (get_or items i item))
-        ∙ ap (last_stamp sizes r 0) (sym (take_more items i item l)) ∙ sym (stamp_at sizes (take (i + 1) items) r within))
+    let within : r < sum sizes = omega (arith, h, count, n_old) in
+    each r h ∙ ap (λ z. stamp_after sizes r (get_or z r 0) item) was ∙ ap (λ z. stamp_after sizes r z item) (stamp_at sizes (take i items) r within)
+    ∙ ap (stamp_after sizes r (last_stamp sizes r 0 (take i items))) e ∙ sym (last_push sizes r 0 (take i items) (get_or items i item))
+    ∙ ap (last_stamp sizes r 0) (sym (take_more items i item l)) ∙ sym (stamp_at sizes (take (i + 1) items) r within))
 
 -- before all items
 pub none_stamped : (sizes : List ℕ) (n : ℕ) → n ≡ sum sizes → replicate n 0 ≡ opening_stamps sizes []
 none_stamped sizes n is =
     ext_get_or 0 (replicate n 0) (opening_stamps sizes []) (length-replicate {A = ℕ} n 0 ∙ is ∙ sym (count_is sizes [])) (λ r h.
-        let within : r < n = omega (arith, h, length-replicate {A = ℕ} n 0) in
-        get_or-replicate n r 0 0 within ∙ sym (stamp_at sizes [] r (omega (arith, within, is))))
+    let within : r < n = omega (arith, h, length-replicate {A = ℕ} n 0) in
+    get_or-replicate n r 0 0 within ∙ sym (stamp_at sizes [] r (omega (arith, within, is))))
 
 -- ---- stamps that are early ----
 early_after : (sizes : List ℕ) (r n bound : ℕ) (item : Item) → n < bound → packed item.stamp < bound → stamp_after sizes r n item < bound

@@ -4,9 +4,9 @@ use Rattle.rl_worker.proofs.Basics.{by_test, test_lt, rest_at}
 use Rattle.rl_worker.proofs.States.{Rec, Void, Entry, Phase, Rest, Asking, Wanting, Loading, Locking, Validating, Storing, Refusing, State, decided, Setting}
 use Rattle.rl_worker.proofs.OwnLaw.{Ground, Serial, Rising, Lawful, InLists}
 use Rattle.rl_worker.specs.Laws.{AllTrue}
-use Rattle.rl_worker.specs.Acts.{Core, no_rec, phase_of, micro, passing, resting, settle, begin, step, is_done, may, idle, Turn, Step, Idle, turn, after_turns, target, act_result, opening_core}
+use Rattle.rl_worker.specs.Acts.{Core, no_rec, phase_of, micro, passing, resting, settle, begin, step, is_done, may, idle, Turn, Step, Idle, turn, after_turns, opening_core}
 use Rattle.rl_worker.proofs.Parts.{micro_parts, step_on}
-use Rattle.rl_worker.proofs.OwnLaw.{AllFree, AllRest, Opens}
+use Rattle.rl_worker.proofs.OwnLaw.{AllFree, Opens}
 use Rattle.rl_worker.proofs.Inv.{Inv, Knows}
 use Rattle.rl_worker.proofs.Keeps.{Keeps, knows_kept, final_kept}
 use Rattle.rl_worker.proofs.Local.{decided_lives}

@@ -1,6 +1,6 @@
 -- The records and the workers of an open leader as lists, and what one step of a worker does to them.
 use Rattle.std.specs.Prelude.{ℕ, suc, List, [], ◌∷◌, ◌++◌, length, get_or, set, Bool, true, false, not, ◌&&◌, ◌==◌, nat_lt, is_some, if◌then◌else◌, Option, Some, None}
-use Rattle.rl_worker.specs.Phases.{Answer, Read, Install, Rec, Phase, Rest, Asking, Wanting, Loading, Locking, Validating, Storing, Refusing, Setting, with_read, asked, other}
+use Rattle.rl_worker.specs.Phases.{Rec, Phase, Rest, Asking, Wanting, Loading, Locking, Validating, Storing, Refusing, Setting, with_read, asked, other}
 use Rattle.rl_worker.specs.Items.{CoreItem, insert_by_stamp}
 
 -- why an attempt was refused: the holder then and the stamp found, or also the stamp that it saw first

@@ -1,5 +1,5 @@
 -- The stamps with which the records of an epoch open.
-use Rattle.std.specs.Prelude.{◌≡◌, ℕ, ◌+◌, ◌*◌, ◌^◌, ◌<◌, Bool, List, [], ◌∷◌, map, length, sum, slice_index, ◌==◌, if◌then◌else◌, All}
+use Rattle.std.specs.Prelude.{◌≡◌, ℕ, ◌^◌, ◌<◌, Bool, List, [], ◌∷◌, map, length, sum, slice_index, ◌==◌, if◌then◌else◌, All}
 use Rattle.std.specs.List.{list_any, range_with_len}
 use Rattle.rl_base.specs.Stamps.{packed}
 use Rattle.rl_value.specs.Tables.{Table}

@@ -1,5 +1,5 @@
 -- What the code tells of records, of acts and of refusals: words in the place of stamps and holders.
-use Rattle.std.specs.Prelude.{ℕ, ◌+◌, ◌*◌, ◌<◌, List, [], ◌∷◌, length, sum, get_or, nat_lt, is_some, if◌then◌else◌, Option, Some, None, IfSome}
+use Rattle.std.specs.Prelude.{ℕ, ◌+◌, ◌*◌, ◌<◌, List, [], ◌∷◌, length, sum, get_or, nat_lt, is_some, if◌then◌else◌, Option, IfSome}
 use Rattle.rl_base.specs.declared.refusal.Refusal.{Refusal}
 use Rattle.rl_base.specs.declared.refusal.Refusal.TheVariants as refusals
 use Rattle.rl_value.specs.Tables.{Table}

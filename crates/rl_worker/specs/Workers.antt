@@ -1,10 +1,10 @@
 -- What a worker stands for among the phases of a core, what it keeps from step to step, and what a step does.
-use Rattle.std.specs.Prelude.{◌≡◌, ℕ, ◌+◌, ◌*◌, ◌^◌, ◌<◌, ◌≤◌, List, ◌∷◌, ◌++◌, length, map, sum, take, drop, set, Bool, true, false, is_some, if◌then◌else◌, Option, Some, None, IfSome, IsSomeAnd, option_to_list, All, Contains}
+use Rattle.std.specs.Prelude.{◌≡◌, ℕ, ◌+◌, ◌*◌, ◌^◌, ◌<◌, ◌≤◌, List, ◌++◌, length, map, sum, take, drop, set, Bool, true, false, is_some, if◌then◌else◌, Option, Some, None, IfSome, IsSomeAnd, option_to_list, All, Contains}
 use Rattle.std.specs.Option.{option_map}
 use Rattle.rl_base.specs.Stamps.{packed}
 use Rattle.rl_value.specs.Tables.{Table, columns_of}
 use Rattle.rl_tables.specs.Numbers.{sizes_of, place_of}
-use Rattle.rl_txn.specs.Eval.{IsEval, Awaits, awaited, known, reads_room}
+use Rattle.rl_txn.specs.Eval.{IsEval, Awaits, awaited, rows_given, reads_room}
 use Rattle.rl_txn.specs.Fits.{WriteFits}
 use Rattle.rl_txn.specs.declared.op.Op.{Op}
 use Rattle.rl_txn.specs.declared.item.Item.{Item}
@@ -117,7 +117,7 @@ ReadFits tables x = (x.rec < sum (sizes_of tables)) × (x.seen < 2 ^ 60)
 -- the evaluation waits for the record that is loaded
 pub record IsReading (tables : List Table) (txn : List Op) (r : Reading) : Type 0 where
   pub eval : IsEval tables txn r.eval
-  pub known : known r.eval ≡ overlay_of tables r.reads.0
+  pub known : rows_given r.eval ≡ overlay_of tables r.reads.0
   pub room : reads_room r.eval ≤ r.reads.1
   pub reads : All (ReadFits tables) r.reads.0
   pub awaits : Awaits r.eval

@@ -1,7 +1,7 @@
 //! What holds of all workers of an open leader together.
 
 ghost use Rattle.rl_worker.specs.Laws.{DecidesSerially, ItemsFollowOn, CausesAreTrue, StampsRise, StampsStayBelow, SettledStays};
-ghost use Rattle.rl_worker.specs.OneTurn.{StepsAreOne, StampsStayInRange, ItemsEndInOrder, OpenItemsAreInstalled};
+ghost use Rattle.rl_worker.specs.OneTurn.{StepsAreOne, StepsTellNews, StampsStayInRange, ItemsStayInRange, ItemsEndInOrder, OpenItemsAreInstalled};
 ghost use Rattle.rl_worker.specs.Stamping.{EachRecordOpens, OpeningStampsAreEarly, FittingWritesAreThere};
 
 /// The law of the core, for every list of steps and idle draws of all workers, from records with
@@ -20,16 +20,19 @@ pub fn core_serial()
 {}
 
 /// One step of a worker adds the same item or none to what is decided and to what was made, an item or none to what has
-/// ended, and a refusal or none; it draws at most one stamp, and changes no other worker.
+/// ended, and a refusal or none; it draws at most one stamp, and changes no other worker. What ended and was refused in it
+/// is what `Worker::step` tells.
 pub fn one_step()
-    ensures { StepsAreOne }
+    ensures one { StepsAreOne }
+    ensures tells { StepsTellNews }
 {}
 
 /// After any steps and idle draws the stamps are in the range of their epoch: from that of seq 2 up to the next, which is at
-/// most that of the end mark; and what is decided was made. Each worker's decided items, by stamp, are those that have ended, in
+/// most that of the end mark; what is decided was made, and as it is seen it is in the range of its batch. Each worker's decided items, by stamp, are those that have ended, in
 /// the order in which they did, and then the one that it installs.
 pub fn ranges()
     ensures in_range { StampsStayInRange }
+    ensures items { ItemsStayInRange }
     ensures end_in_order { ItemsEndInOrder }
 {}
 

@@ -8,7 +8,7 @@ ghost use Rattle.rl_tables.specs.Numbers.{sizes_of};
 ghost use Rattle.rl_value.specs.Tables.{Table};
 ghost use Rattle.rl_txn.specs.Fits.{TxnFits, ListsFit};
 ghost use Rattle.rl_txn.specs.Run.{run};
-ghost use Rattle.rl_txn.specs.Eval.{HasEnded, IsEval, HasRows, known};
+ghost use Rattle.rl_txn.specs.Eval.{HasEnded, IsEval, HasRows, rows_given};
 ghost use Rattle.rl_txn.specs.declared.op.Op.{Op};
 ghost use Rattle.rl_worker.specs.declared.commit.Commit.{Commit};
 ghost use Rattle.rl_worker.specs.Phases.{asked, Rest, Setting};
@@ -159,7 +159,7 @@ impl Worker {
         ensures index { result.item.index ≡ self.now.index }
         ensures stamp { result.item.stamp ≡ record { epoch = self.now.epoch; seq = 0 } }
         ensures run { (tables : List Table) (txn : List Op) (rows : Rows)
-            → IsEval tables txn reading.eval → HasRows (known reading.eval) rows
+            → IsEval tables txn reading.eval → HasRows (rows_given reading.eval) rows
             → (result.item.reply, result.item.writes) ≡ run tables txn rows }
     {
         let Reading {

@@ -1,4 +1,4 @@
-use Rattle.std.proofs.Common.{arith, ◌<◌, ◌≤◌, ◌+◌, sum, take, slice_index}
+use Rattle.std.proofs.Common.{arith}
 use Rattle.rl_tables.proofs.Places.{place_of_record, place_there}
 use Rattle.rl_tables.proofs.Sizes.{sum_before}
 use Rattle.rl_tables.proofs.laws.records_and_places.Goals as goal

@@ -1,5 +1,4 @@
-use Rattle.std.proofs.Common.{rules, ◌≡◌, replicate, ap, sym, ◌∙◌}
-use Rattle.rl_worker.specs.Stamping.{opening_stamps}
+use Rattle.std.proofs.Common.{rules, ◌≡◌, replicate, ◌∙◌}
 use Rattle.rl_worker.proofs.Stamping.{none_stamped, item_more}
 use Rattle.rl_worker.proofs.opening.opening_stamps.Goals as goal
 

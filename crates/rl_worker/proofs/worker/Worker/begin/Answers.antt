@@ -1,4 +1,4 @@
-use Rattle.std.proofs.Common.{◌≡◌, ◌∙◌, ap, sym}
+use Rattle.std.proofs.Common.{◌∙◌, ap, sym}
 use Rattle.rl_worker.specs.Phases.{asked}
 use Rattle.rl_worker.specs.Opening.{outcome}
 use Rattle.rl_worker.specs.Attempts.{Began}
