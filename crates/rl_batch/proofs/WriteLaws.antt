@@ -19,7 +19,8 @@ use Rattle.rl_fields.specs.Fields.{number, within, series, several}
 use Rattle.rl_fields.proofs.FieldLaws.{bind_ok, guard_not, ok_is, Takes, Takes-then, number_takes, number_again, within_takes, within_again}
 use Rattle.rl_fields.proofs.SeriesLaws.{IsReader, series_takes, series_again, several_takes, several_again}
 use Rattle.rl_batch.specs.Encoding.{numbers_bytes, columns_of_row, write_bytes, writes_bytes}
-use Rattle.rl_batch.specs.Ranges.{WriteInRange, IsPlaceBelow, AreWords, WriteHasWords}
+use Rattle.rl_batch.specs.Ranges.{WriteInRange, AreWords, WriteHasWords}
+use Rattle.rl_txn.specs.Fits.{IsPlaceBelow}
 use Rattle.rl_batch.specs.Reading.{rising, numbers, row_of_columns, row, least_key, write, place_after, writes}
 use Rattle.rl_batch.proofs.Rising.{IsRise, chain_rises, rising_chain}
 

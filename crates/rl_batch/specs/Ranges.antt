@@ -1,9 +1,8 @@
 -- The batches that have an encoding.
 use Rattle.std.specs.Prelude.{◌≡◌, ℕ, ◌<◌, ◌≤◌, ◌^◌, ◌-◌, List, length, IfSome, All, AllPairs}
-use Rattle.std.specs.declared.cmp.Ordering.TheVariants.{Less}
 use Rattle.rl_base.specs.declared.limit.TheConstants.{WORKERS, TABLES, RECORDS, REQUESTS, OPS}
 use Rattle.rl_base.specs.declared.stamp.Stamp.{Stamp}
-use Rattle.rl_value.specs.Rows.{place_cmp}
+use Rattle.rl_txn.specs.Fits.{IsPlaceBelow}
 use Rattle.rl_txn.specs.declared.write.End.{End}
 use Rattle.rl_txn.specs.declared.write.End.TheVariants.{Done, Declined}
 use Rattle.rl_txn.specs.declared.write.Write.{Write}
@@ -19,10 +18,6 @@ pub record WriteInRange (w : Write) : Type 0 where
   pub key : w.key ≤ RECORDS - 1
   pub some_columns : IfSome w.row (λ row. 1 ≤ length row)
   pub few_columns : IfSome w.row (λ row. length row ≤ 4)
-
--- the place of a write is below that of another
-abbrev pub IsPlaceBelow : Write → Write → Type 0
-IsPlaceBelow v w = place_cmp (v.table, v.key) (w.table, w.key) ≡ Less
 
 -- done, or declined by an op
 abbrev pub EndInRange : End → Type 0

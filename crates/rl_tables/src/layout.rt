@@ -79,13 +79,14 @@ impl Layout {
         })
     }
 
-    /// The number of the record of a key.
+    /// The number of the record of a key, whose place `place` gives again.
     pub fn record(&self, t: u32, k: u32) -> u32
         requires table { t < length self.now }
         requires key { k < slice_index self.now t }
         ensures number { result ≡ record_of self.now t k }
         ensures there { result < sum self.now }
         ensures few { result < RECORDS }
+        ensures place { place_of self.now result ≡ (t, k) }
     {
         self.before(t) + k
     }

@@ -1,4 +1,5 @@
 //! Record numbers.
 #![tactic(auto)]
 
+pub mod laws;
 pub mod layout;

@@ -1,5 +1,5 @@
 -- An evaluation on its way: the rows that it was given say as much as any rows that have them.
-use Rattle.std.proofs.Common.{◌≡◌, ℕ, ◌+◌, ◌%◌, ◌^◌, ◌<◌, ◌≤◌, min, List, [], ◌∷◌, ◌++◌, length, take, drop, filter, get_or, slice_get, Bool, true, false, not, ◌&&◌, ◌||◌, cond, if◌then◌else◌, is_some, nat_lt, nat_le, Option, Some, None, IfSome, IfNone, vec_capacity, refl, ap, sym, ◌∙◌, subst, zero, suc, arith, sum_by, append_assoc, inl, inr, ◌⊎◌}
+use Rattle.std.proofs.Common.{◌≡◌, ℕ, ◌+◌, ◌%◌, ◌^◌, ◌<◌, ◌≤◌, min, List, [], ◌∷◌, ◌++◌, length, take, drop, filter, get_or, slice_get, Bool, true, false, not, ◌&&◌, cond, if◌then◌else◌, is_some, nat_lt, nat_le, Option, Some, None, IfSome, IfNone, vec_capacity, refl, ap, sym, ◌∙◌, subst, zero, suc, arith, sum_by, append_assoc, inl, inr, ◌⊎◌}
 use mathlib.Core.Bool.{false≢true}
 use Rattle.std.specs.Option.{option_map_or}
 use Rattle.std.specs.List.{find, range_with_len, list_any}
@@ -10,7 +10,7 @@ use Rattle.std.proofs.lemmas.List.Sums.{sum_by-cons, sum_by-take-drop}
 use Rattle.rl_value.specs.Rows.{Rows, place_cmp}
 use Rattle.rl_value.specs.Tables.{Table, size_of}
 use Rattle.rl_txn.specs.Run.{Overlay, Progress, row_seen, column_of, only_if, with_reg, value_of, op_done, passes, ops_done, beginning, run}
-use Rattle.rl_txn.specs.Eval.{rows_of, HasRows, is_new, unknown, places, places_read, reads_at_most, read_by, progress_of, wants, known, IsOnWay, AreKnown, IsNext, IsAsked, IsEval}
+use Rattle.rl_txn.specs.Eval.{rows_of, HasRows, is_new, unknown, places, places_read, reads_at_most, read_by, progress_of, wants, rows_given, IsOnWay, AreKnown, IsNext, IsAsked, IsEval}
 use Rattle.rl_txn.specs.declared.op.Op.{Op}
 use Rattle.rl_txn.specs.declared.op.Op.TheVariants.{Set, Add, Sub, Mul, Get, Has, Put, Del, Scan, Need, Skip, Out}
 use Rattle.rl_txn.specs.declared.workspace.Workspace.{Workspace}
@@ -23,8 +23,6 @@ use Rattle.rl_txn.specs.declared.write.End.{End}
 use Rattle.rl_txn.specs.declared.write.End.TheVariants.{Done, Declined}
 use Rattle.std.specs.Ordering.{eq_by_cmp, is_eq}
 use Rattle.std.specs.Cmp.{tied_itself}
-use Rattle.std.specs.declared.cmp.Ordering.{Ordering}
-use Rattle.std.specs.declared.cmp.Ordering.TheVariants.{Less, Equal, Greater}
 use Rattle.rl_txn.specs.Fits.{OpFits, TxnFits}
 use Rattle.rl_txn.specs.Run.{writes_of}
 use Rattle.rl_txn.specs.Eval.{StandsAt, HasRoom}
@@ -251,7 +249,7 @@ module _ (tables : List Table) (txn : List Op) where
   ends_by : (e : Eval) (ops : List Op) (end : End) → IsEval tables txn e → drop e.done txn ≡ ops
       → ((rows : Rows) → HasRows e.work.read.0 rows → ops_done tables rows (e.done + 1) 0 ops (progress_of e.work) ≡ (progress_of e.work, end))
       → find (is_new e.work.read.0) (read_by tables (rows_of e.work.read.0) 0 ops (progress_of e.work)) ≡ None
-      → (Ended end ≡ wants tables txn (known e)) × IsAsked tables txn e (Some (Ended end))
+      → (Ended end ≡ wants tables txn (rows_given e)) × IsAsked tables txn e (Some (Ended end))
   unfolding run
   ends_by e ops end ev at ran none =
       let all : (rows : Rows) → HasRows e.work.read.0 rows → ops_done tables rows 1 0 txn beginning ≡ (progress_of e.work, end) =
@@ -263,7 +261,7 @@ module _ (tables : List Table) (txn : List Op) where
       (sym (ap (λ o. option_map_or (λ (q : ℕ × ℕ). Read q.0 q.1) o (Ended (run tables txn own).0.end)) nothing ∙ ap (λ (d : Progress × End). Ended d.1) (all own (has_rows_of e.work.read.0))), all)
 
   pub declined : (e : Eval) (op : Op) (ops : List Op) → IsEval tables txn e → drop e.done txn ≡ op ∷ ops → AllKnown tables (drop e.done txn) e
-      → op_done tables (rows_of e.work.read.0) op (progress_of e.work) ≡ None → (Ended (Declined (e.done + 1)) ≡ wants tables txn (known e)) × IsAsked tables txn e (Some (Ended (Declined (e.done + 1))))
+      → op_done tables (rows_of e.work.read.0) op (progress_of e.work) ≡ None → (Ended (Declined (e.done + 1)) ≡ wants tables txn (rows_given e)) × IsAsked tables txn e (Some (Ended (Declined (e.done + 1))))
   unfolding read_by ops_done
   declined e op ops ev at all stopped =
       let here : list_any (unknown e.work.read.0 e.work.written.0) (places_read tables op (progress_of e.work)) ≡ false = subst (λ z. AllKnown tables z e) at all in
@@ -275,7 +273,7 @@ module _ (tables : List Table) (txn : List Op) where
       (ap (λ o. find (is_new e.work.read.0) (reads ++ option_map_or (λ next. read_by tables own (passes op (progress_of e.work)) ops next) o [])) stopped
       ∙ find_none (is_new e.work.read.0) (reads ++ []) (any_append (is_new e.work.read.0) reads [] (filter_known e.work.read.0 e.work.written.0 (places_read tables op (progress_of e.work)) here) refl))
 
-  pub ended : (e : Eval) → IsEval tables txn e → length txn ≤ e.done → (Ended Done ≡ wants tables txn (known e)) × IsAsked tables txn e (Some (Ended Done))
+  pub ended : (e : Eval) → IsEval tables txn e → length txn ≤ e.done → (Ended Done ≡ wants tables txn (rows_given e)) × IsAsked tables txn e (Some (Ended Done))
   unfolding read_by ops_done
   ended e ev past = ends_by e [] Done ev (drop_past txn e.done past) (λ rows has. refl) refl
 
@@ -357,7 +355,7 @@ module _ (tables : List Table) (txn : List Op) where
   -- the record at hand is the next that is wanted
   pub next_is : (e : Eval) (op : Op) (ops : List Op) (t f n : ℕ) → IsEval tables txn e → drop e.done txn ≡ op ∷ ops → places_read tables op (progress_of e.work) ≡ places t f n → n ≡ reads_at_most op → e.scanned < n
       → unknown e.work.read.0 e.work.written.0 (t, f + e.scanned) ≡ true
-      → (Read t (f + e.scanned) ≡ wants tables txn (known e)) × IsAsked tables txn e (Some (Read t (f + e.scanned)))
+      → (Read t (f + e.scanned) ≡ wants tables txn (rows_given e)) × IsAsked tables txn e (Some (Read t (f + e.scanned)))
   unfolding read_by
   next_is e op ops t f n ev at are most less new =
       let own = rows_of e.work.read.0 in

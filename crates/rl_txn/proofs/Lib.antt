@@ -1,3 +1,4 @@
+pub mod Answers
 pub mod Evals
 pub mod Folds
 pub mod Known

@@ -66,8 +66,8 @@ abbrev pub progress_of : Workspace → Progress
 progress_of w = record { regs = w.regs; outs = w.outs.items; written = w.written.0 }
 
 -- the rows that an evaluation was given
-abbrev pub known : Eval → Overlay
-known e = e.work.read.0
+abbrev pub rows_given : Eval → Overlay
+rows_given e = e.work.read.0
 
 -- how many more rows an evaluation has room for
 abbrev pub reads_room : Eval → ℕ
@@ -148,7 +148,7 @@ awaited e = place_of_wants e.wants
 -- it waits for a row, for which there is room
 pub record Awaits (e : Eval) : Type 0 where
   pub asked : IsRead e.wants
-  pub fresh : is_new (known e) (awaited e) ≡ true
+  pub fresh : is_new (rows_given e) (awaited e) ≡ true
   pub room : 0 < e.work.read.1
   pub few : e.scanned < 256
 

@@ -1,5 +1,6 @@
 pub mod Eval
 pub mod Fits
+pub mod Laws
 pub mod RowSets
 pub mod Run
 pub mod Serial

@@ -8,7 +8,7 @@ ghost use Rattle.rl_value.specs.Tables.{Table};
 ghost use Rattle.rl_txn.specs.declared.op.Op.{Op};
 ghost use Rattle.rl_txn.specs.Fits.{TxnFits, OpFits};
 ghost use Rattle.rl_txn.specs.Run.{run};
-ghost use Rattle.rl_txn.specs.Eval.{reads_at_most, HasRows, IsEval, known, reads_room, wants, WantsFit, IsAsked, Awaits, awaited, HasEnded, StandsAt};
+ghost use Rattle.rl_txn.specs.Eval.{reads_at_most, HasRows, IsEval, rows_given, reads_room, wants, WantsFit, IsAsked, Awaits, awaited, HasEnded, StandsAt};
 ghost use Rattle.rl_txn.specs.Steps.{AllKnown};
 
 use crate::op::{Op, Txn};
@@ -45,7 +45,7 @@ impl Eval {
     pub fn start(alloc: Global, schema: &Schema, txn: &Txn) -> Result<Eval, Memory>
         requires { TxnFits schema.now txn.now }
         ensures begun { IfOk result (λ eval. IsEval schema.now txn.now eval) }
-        ensures none { IfOk result (λ eval. known eval ≡ finite.empty) }
+        ensures none { IfOk result (λ eval. rows_given eval ≡ finite.empty) }
     {
         let ops = txn.len();
         Ok(Eval {
@@ -68,9 +68,9 @@ impl Eval {
     pub fn advance(&mut self, schema: &Schema, txn: &Txn) -> Wants
         requires fits { TxnFits schema.now txn.now }
         requires of { IsEval schema.now txn.now self.old }
-        ensures wants { result ≡ wants schema.now txn.now (known self.old) }
+        ensures wants { result ≡ wants schema.now txn.now (rows_given self.old) }
         ensures there { WantsFit schema.now result }
-        ensures known { known self.new ≡ known self.old }
+        ensures known { rows_given self.new ≡ rows_given self.old }
         ensures room { reads_room self.new ≡ reads_room self.old }
         ensures of { IsEval schema.now txn.now self.new }
         ensures stands { StandsAt self.new result }
@@ -84,7 +84,7 @@ impl Eval {
     /// Gives the row that the last `advance` wanted, and takes no memory.
     pub fn give(&mut self, row: Option<Row>)
         requires { Awaits self.old }
-        ensures known { known self.new ≡ finite.insert (known self.old) (awaited self.old) row }
+        ensures known { rows_given self.new ≡ finite.insert (rows_given self.old) (awaited self.old) row }
         ensures room { reads_room self.old ≡ reads_room self.new + 1 }
         ensures of { (tables : List Table) (txn : List Op)
             → IsEval tables txn self.old → IsEval tables txn self.new }
@@ -101,7 +101,7 @@ impl Eval {
     pub fn finish(self) -> (Reply, Writes)
         requires { HasEnded self }
         ensures { (tables : List Table) (txn : List Op) (rows : Rows)
-            → IsEval tables txn self → HasRows (known self) rows → result ≡ run tables txn rows }
+            → IsEval tables txn self → HasRows (rows_given self) rows → result ≡ run tables txn rows }
     {
         let Eval {
             work,
@@ -135,7 +135,7 @@ impl Eval {
         requires fits { TxnFits schema.now txn.now }
         requires of { IsEval schema.now txn.now self.old }
         requires nothing { self.old.wants ≡ None }
-        ensures wants { result ≡ wants schema.now txn.now (known self.old) }
+        ensures wants { result ≡ wants schema.now txn.now (rows_given self.old) }
         ensures there { WantsFit schema.now result }
         ensures read { self.new.work.read ≡ self.old.work.read }
         ensures of { IsEval schema.now txn.now self.new }
@@ -165,7 +165,7 @@ impl Eval {
         ensures read { self.new.work.read ≡ self.old.work.read }
         ensures done { self.new.done ≡ self.old.done }
         ensures none { IfNone result (AllKnown schema.now (drop self.new.done txn.now) self.new) }
-        ensures some { IfSome result (λ w. w ≡ wants schema.now txn.now (known self.old)) }
+        ensures some { IfSome result (λ w. w ≡ wants schema.now txn.now (rows_given self.old)) }
         ensures there { IfSome result (WantsFit schema.now) }
         ensures asked { IfSome result (λ w. IsAsked schema.now txn.now self.new (Some w)) }
     {
@@ -195,7 +195,7 @@ impl Eval {
         ensures more { OnTrue result (self.old.done < self.new.done) }
         ensures same { OnFalse result (self.new.done ≡ self.old.done) }
         ensures wants { OnFalse result (Wants.Ended (End.Declined (self.old.done + 1))
-            ≡ wants schema.now txn.now (known self.old)) }
+            ≡ wants schema.now txn.now (rows_given self.old)) }
         ensures asked { OnFalse result (IsAsked schema.now txn.now self.new
             (Some (Wants.Ended (End.Declined (self.old.done + 1))))) }
     {

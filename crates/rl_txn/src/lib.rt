@@ -4,6 +4,7 @@
 pub mod batch;
 pub mod eval;
 pub mod item;
+pub mod laws;
 pub mod op;
 pub mod row_set;
 pub mod run;

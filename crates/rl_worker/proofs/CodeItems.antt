@@ -1,5 +1,5 @@
 -- A step told by the code's item, and then by the core's.
-use Rattle.std.proofs.Common.{◌≡◌, ℕ, zero, suc, ◌+◌, ◌-◌, ◌*◌, ◌^◌, ◌<◌, ◌≤◌, List, [], ◌∷◌, ◌++◌, length, map, set, Bool, true, false, nat_lt, is_some, if◌then◌else◌, Option, Some, None, IfSome, option_to_list, refl, sym, ap, ◌∙◌, subst, arith}
+use Rattle.std.proofs.Common.{◌≡◌, ℕ, suc, ◌+◌, ◌-◌, ◌*◌, ◌^◌, List, [], ◌∷◌, ◌++◌, map, set, Bool, true, false, nat_lt, is_some, if◌then◌else◌, Option, Some, None, IfSome, option_to_list, refl, sym, ap, ◌∙◌, subst, arith}
 use Rattle.std.specs.List.{Contains}
 use Rattle.std.specs.Option.{option_map}
 use Rattle.rl_base.specs.Stamps.{packed}
@@ -10,13 +10,9 @@ use Rattle.rl_worker.specs.declared.words.Words.{Words}
 use Rattle.rl_worker.specs.declared.worker.Worker.{Worker}
 use Rattle.rl_worker.specs.Items.{CoreItem, insert_by_stamp}
 use Rattle.rl_worker.specs.Acts.{CoreRefusal, Core}
-use Rattle.rl_worker.specs.Opening.{install_of, item_seen, items_seen}
+use Rattle.rl_worker.specs.Opening.{item_seen, items_seen}
 use Rattle.rl_worker.specs.Told.{refused}
-use Rattle.rl_worker.specs.Workers.{phase_of_worker, number_of, epoch_of, next_of, decided_item, Stands, HasDecided, either, newly_decided, with_item, stamp_made, IsItemOf, Steps}
-
--- an item as the core has it
-abbrev pub core_item : List Table → txn.Item → CoreItem
-core_item tables x = record { stamp = packed x.stamp; worker = x.worker; index = x.index; answer = (x.reply, x.writes); writes = map (install_of tables) x.writes }
+use Rattle.rl_worker.specs.Workers.{core_item, phase_of_worker, number_of, epoch_of, next_of, decided_item, Stands, either, newly_decided, with_item, stamp_made, IsItemOf, Steps}
 
 -- an item of the worker's epoch and request
 abbrev pub IsOf : Worker → txn.Item → Type 0
@@ -41,6 +37,8 @@ pub record CodeSteps (tables : List Table) (old new : Worker) (words : Words) (t
   pub stamped : IfSome (newly_decided old new told) (IsOf old)
   pub made : core'.made ≡ option_to_list (option_map stamp_by (newly_decided old new told)) ++ core.made
   pub ended : IfSome told.ended (λ x. decided_item new ≡ None)
+  pub core_ended : core'.ended ≡ option_to_list (option_map (core_item tables) told.ended) ++ core.ended
+  pub ended_of : IfSome told.ended (IsOf old)
   pub index : next_of new ≡ next_of old + (if is_some told.ended then 1 else 0)
 
 -- an item that joins is there
@@ -53,7 +51,7 @@ contains_new f x (y ∷ ys) = go (nat_lt x.stamp y.stamp) (contains_new f x ys)
     go false h = (suc h.0, omega (arith, h.1), h.2)
 
 -- an item of the worker's epoch is seen as it was
-seen_again : (tables : List Table) (w : Worker) (x : txn.Item) → IsOf w x → item_seen (epoch_of w) (core_item tables x) ≡ x
+pub seen_again : (tables : List Table) (w : Worker) (x : txn.Item) → IsOf w x → item_seen (epoch_of w) (core_item tables x) ≡ x
 seen_again tables w x h =
     let seq : packed x.stamp - w.epoch * 2 ^ 40 ≡ x.stamp.seq = omega (arith, ap (λ e. e * 2 ^ 40) h.0) in
     λ i. record { stamp = record { epoch = sym h.0 i; seq = seq i }; worker = x.worker; index = x.index; reply = x.reply; writes = x.writes }
@@ -107,6 +105,9 @@ seen_steps tables old new words told core core' t =
       seen = seen_if tables old newly t.stamped;
       kept = t.kept;
       ended = t.ended;
+      over = option_map (core_item tables) told.ended;
+      core_ended = t.core_ended;
+      ended_seen = seen_if tables old told.ended t.ended_of;
       has_decided = has_decided tables old new told core core' t.epoch t.decided t.stamped (decided_item old) (decided_item new) told.ended refl refl refl t.kept t.ended;
       refusal = t.refusal;
       refusals = t.refusals;

@@ -19,9 +19,9 @@ use Rattle.rl_worker.specs.Opening.{install_of}
 use Rattle.rl_value.specs.Cells.{cells_of}
 use Rattle.rl_worker.specs.Told.{found, word, act_of}
 use Rattle.rl_worker.specs.Attempts.{refusal_of, IsAct, next_after}
-use Rattle.rl_worker.specs.Workers.{part_phase, commit_phase, stamp_next, RecordsFit}
+use Rattle.rl_worker.specs.Workers.{core_item, part_phase, commit_phase, stamp_next, RecordsFit}
 use Rattle.rl_txn.specs.Fits.{WriteFits, RowHas}
-use Rattle.rl_worker.proofs.Places.{place_of_record}
+use Rattle.rl_tables.proofs.Places.{place_of_record}
 use Rattle.rl_worker.proofs.Settings.{sizes_length}
 
 lt_is_true : (a b : ℕ) → a < b → nat_lt a b ≡ true
@@ -150,8 +150,8 @@ module _ (tables : List Table) (c : Commit) (at : ℕ) (w : Write) (w_is : w ≡
     t : ℕ
     t = packed c.item.stamp
 
-    store_phase : commit_phase tables c ≡ Storing c.item.index (packed c.item.stamp) stored (y ∷ drop (at + 1) is)
-    store_phase = ap (part_phase tables c) p ∙ ap (Storing c.item.index (packed c.item.stamp) stored) next_install
+    store_phase : commit_phase tables c ≡ Storing (core_item tables c.item) stored (y ∷ drop (at + 1) is)
+    store_phase = ap (part_phase tables c) p ∙ ap (Storing (core_item tables c.item) stored) next_install
 
     still : stamp_next c.item.stamp.epoch words' ≡ stamp_next c.item.stamp.epoch words
     still = ap (λ n. c.item.stamp.epoch * 2 ^ 40 + n) n_is
@@ -161,9 +161,9 @@ module _ (tables : List Table) (c : Commit) (at : ℕ) (w : Write) (w_is : w ≡
         → IsAct s c.item.worker c.item.stamp.epoch (commit_phase tables c) (commit_phase tables (record c { part = part.Storing at (stored + 1) })) words words' told
     stores value less v rs m =
         let b : nat_lt stored (length y.row) ≡ true = lt_is_true stored (length y.row) less in
-        act_at s c.item.worker c.item.stamp.epoch (commit_phase tables c) (Storing c.item.index (packed c.item.stamp) stored (y ∷ drop (at + 1) is)) _ words words' x told store_phase
+        act_at s c.item.worker c.item.stamp.epoch (commit_phase tables c) (Storing (core_item tables c.item) stored (y ∷ drop (at + 1) is)) _ words words' x told store_phase
         (ap (found words.records.items) (sym r_is) ∙ fx)
-        (rw b (ap (λ n. Storing c.item.index (packed c.item.stamp) n (drop at is)) (add-one stored) ∙ ap (Storing c.item.index (packed c.item.stamp) (suc stored)) next_install))
+        (rw b (ap (λ n. Storing (core_item tables c.item) n (drop at is)) (add-one stored) ∙ ap (Storing (core_item tables c.item) (suc stored)) next_install))
         (rw b (rs ∙ ap (λ n. set words.records.items n (record x { cells = set x.cells stored value })) r_is ∙ ap (λ n. set words.records.items y.rec (record x { cells = set x.cells stored n })) v))
         (rw b still)
         (rw b (ap (λ (z : code.Moved). z.refused) m))
@@ -175,7 +175,7 @@ module _ (tables : List Table) (c : Commit) (at : ℕ) (w : Write) (w_is : w ≡
         → IsAct s c.item.worker c.item.stamp.epoch (commit_phase tables c) (commit_phase tables (record c { part = part.Storing (at + 1) 0 })) words words' told
     closes past rs m =
         let b : nat_lt stored (length y.row) ≡ false = lt_is_false stored (length y.row) past in
-        act_at s c.item.worker c.item.stamp.epoch (commit_phase tables c) (Storing c.item.index (packed c.item.stamp) stored (y ∷ drop (at + 1) is)) _ words words' x told store_phase
+        act_at s c.item.worker c.item.stamp.epoch (commit_phase tables c) (Storing (core_item tables c.item) stored (y ∷ drop (at + 1) is)) _ words words' x told store_phase
         (ap (found words.records.items) (sym r_is) ∙ fx)
         (rw b refl)
         (rw b (rs ∙ ap (λ n. set words.records.items n (record x { stamp = packed c.item.stamp; holder = None })) r_is))

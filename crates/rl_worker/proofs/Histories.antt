@@ -34,7 +34,7 @@ use Rattle.rl_value.specs.Cells.{cells_of, row_of}
 use Rattle.rl_worker.specs.Opening.{overlay_of, install_of, opening_recs, setting_of, item_seen, items_seen, OpenLeader, CoreFits}
 use Rattle.rl_worker.proofs.OwnLaw.{AllRows, or_row, apply, Serial, Rising, Distinct, indexes, upto, has, row_at}
 use Rattle.rl_worker.proofs.Basics.{has_row}
-use Rattle.rl_worker.proofs.Places.{record_of_place, place_past_all}
+use Rattle.rl_tables.proofs.Places.{record_of_place, place_past_all}
 use Rattle.rl_worker.proofs.Writes.{WriteFits, WritesFit, run_fits, run_distinct, place_of_write}
 use Rattle.rl_worker.proofs.Settings.{ending, request_fits, sizes_length, rec_at, rec_past}
 

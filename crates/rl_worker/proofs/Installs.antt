@@ -4,6 +4,7 @@ use Rattle.std.proofs.lemmas.Grind.{common_steps}
 use Rattle.std.proofs.Math.Seq.{take-suc, take-suc-set}
 use Rattle.std.proofs.lemmas.Bool.Decides.{eqb_tells}
 use Rattle.rl_worker.proofs.States.{Answer, Read, Install, Rec, Phase, Rest, Asking, Wanting, Loading, Locking, Validating, Storing, Refusing, State, upd, has, row_at, sets}
+use Rattle.rl_worker.specs.Items.{CoreItem}
 use Rattle.rl_worker.proofs.Inv.{held, pending, settled_by, settled, Version, Stored, Knows, Inv}
 use Rattle.rl_worker.proofs.Basics.{upd_same, upd_other, by_upd, has_append, has_append_old, has_append_new}
 use Rattle.rl_worker.proofs.Keeps.{Keeps, knows_kept, final_kept, reads_kept}
@@ -42,7 +43,7 @@ module _ (G : Ground) (L : Lawful G) where
   pending_holds σ v u r (Loading q reads x seen loaded) k h = absurd (true≢false (sym h))
   pending_holds σ v u r (Locking q reads answer locked todo) k h = absurd (true≢false (sym h))
   pending_holds σ v u r (Validating q t done todo answer writes) k h = k.holds r (both (u == t) (has r writes) h).1
-  pending_holds σ v u r (Storing q t j todo) k h = k.holds r (both (u == t) (has r todo) h).1
+  pending_holds σ v u r (Storing item j todo) k h = k.holds r (both (u == item.stamp) (has r todo) h).1
   pending_holds σ v u r (Refusing q todo) k h = absurd (true≢false (sym h))
 
   -- ---- lock ----
@@ -104,10 +105,10 @@ module _ (G : Ground) (L : Lawful G) where
         }
 
   -- ---- store ----
-  module _ (σ : State) (w q t j : ℕ) (y : Install) (todo : List Install) (inv : Inv G σ)
-      (e : σ.workers w ≡ Storing q t j (y ∷ todo)) (more : j < length y.row) where
+  module _ (σ : State) (w : ℕ) (item : CoreItem) (j : ℕ) (y : Install) (todo : List Install) (inv : Inv G σ)
+      (e : σ.workers w ≡ Storing item j (y ∷ todo)) (more : j < length y.row) where
     abbrev store_phase : Phase
-    store_phase = Storing q t (suc j) (y ∷ todo)
+    store_phase = Storing item (suc j) (y ∷ todo)
 
     abbrev store_rec : Rec
     store_rec = record { stamp = (σ.recs y.rec).stamp; holder = (σ.recs y.rec).holder; cells = set (σ.recs y.rec).cells j (get_or y.row j 0) }
@@ -115,7 +116,7 @@ module _ (G : Ground) (L : Lawful G) where
     abbrev store_state : State
     store_state = sets σ y.rec store_rec w store_phase
 
-    store_knows : Knows G σ w (Storing q t j (y ∷ todo))
+    store_knows : Knows G σ w (Storing item j (y ∷ todo))
     store_knows = rw e at (inv.knows w)
 
     store_held : (σ.recs y.rec).holder ≡ Some w
@@ -153,7 +154,7 @@ module _ (G : Ground) (L : Lawful G) where
 
     pub store_inv : Inv G store_state
     store_inv =
-        let kn : Knows G σ w (Storing q t j (y ∷ todo)) = rw e at (inv.knows w) in
+        let kn : Knows G σ w (Storing item j (y ∷ todo)) = rw e at (inv.knows w) in
         record {
           knows = knows_all σ store_state w store_phase inv store_keeps (record {
             worker = kn.worker;
@@ -239,18 +240,18 @@ module _ (G : Ground) (L : Lawful G) where
         }
 
   -- ---- the closing store of a decided attempt ----
-  module _ (σ : State) (w q t j : ℕ) (y : Install) (todo : List Install) (inv : Inv G σ)
-      (e : σ.workers w ≡ Storing q t j (y ∷ todo)) (whole : length y.row ≤ j) where
+  module _ (σ : State) (w : ℕ) (item : CoreItem) (j : ℕ) (y : Install) (todo : List Install) (inv : Inv G σ)
+      (e : σ.workers w ≡ Storing item j (y ∷ todo)) (whole : length y.row ≤ j) where
     abbrev close_phase : Phase
-    close_phase = Storing q t 0 todo
+    close_phase = Storing item 0 todo
 
     abbrev close_rec : Rec
-    close_rec = record { stamp = t; holder = None; cells = (σ.recs y.rec).cells }
+    close_rec = record { stamp = item.stamp; holder = None; cells = (σ.recs y.rec).cells }
 
     abbrev close_state : State
     close_state = sets σ y.rec close_rec w close_phase
 
-    close_knows : Knows G σ w (Storing q t j (y ∷ todo))
+    close_knows : Knows G σ w (Storing item j (y ∷ todo))
     close_knows = rw e at (inv.knows w)
 
     close_first : has y.rec (y ∷ todo) ≡ true
@@ -259,7 +260,7 @@ module _ (G : Ground) (L : Lawful G) where
     close_held : (σ.recs y.rec).holder ≡ Some w
     close_held = close_knows.holds y.rec close_first
 
-    close_below : (σ.recs y.rec).stamp < t
+    close_below : (σ.recs y.rec).stamp < item.stamp
     close_below = close_knows.below y.rec close_first
 
     -- a record that is still to close is another one
@@ -290,22 +291,22 @@ module _ (G : Ground) (L : Lawful G) where
         close_stays : (r : ℕ) → r ≡ y.rec → (close_state.recs r).stamp ≡ (σ.recs r).stamp → ⊥
         close_stays r i = rw (i, upd_same σ.recs y.rec close_rec) (λ c. omega (arith, close_below))
 
-    close_content : Version G σ y.rec t (σ.recs y.rec).cells
+    close_content : Version G σ y.rec item.stamp (σ.recs y.rec).cells
     close_content =
         let kn = close_knows in
         let here : row_at y.rec (y ∷ todo) ≡ Some y.row = rw (eq-eqb y.rec y.rec refl) refl in
         let all : (σ.recs y.rec).cells ≡ y.row = stored_whole (σ.recs y.rec).cells y.row j whole (inv.width_is y.rec ∙ sym kn.widths.0) kn.stored.1 in
         inr (kn.status, sym (kn.rows_are y.rec close_first) ∙ here ∙ ap Some (sym all))
 
-    close_last : (u r : ℕ) → r ≡ y.rec → pending (σ.workers (σ.log u).worker) u r ≡ true → u ≡ t
+    close_last : (u r : ℕ) → r ≡ y.rec → pending (σ.workers (σ.log u).worker) u r ≡ true → u ≡ item.stamp
     close_last u r i b =
         let held_by = pending_holds σ (σ.log u).worker u r (σ.workers (σ.log u).worker) (inv.knows (σ.log u).worker) b in
         let self : (σ.log u).worker ≡ w = some_same (σ.log u).worker w (sym held_by ∙ (rw (← i) at close_held)) in
-        eqb-true u t (both (u == t) (has r (y ∷ todo)) (rw (self, e) at b)).0
+        eqb-true u item.stamp (both (u == item.stamp) (has r (y ∷ todo)) (rw (self, e) at b)).0
 
     close_drawn_here : (u r : ℕ) → r ≡ y.rec → (u ≤ (σ.recs r).stamp) ⊎ (pending (σ.workers (σ.log u).worker) u r ≡ true) → u ≤ (close_state.recs r).stamp
     close_drawn_here u r i d = rw (i, upd_same σ.recs y.rec close_rec) (elim d [
-      | inl a ↦ (let below : (σ.recs r).stamp < t = rw (← i) at close_below in omega arith)
+      | inl a ↦ (let below : (σ.recs r).stamp < item.stamp = rw (← i) at close_below in omega arith)
       | inr b ↦ omega (arith, close_last u r i b)
     ])
 

@@ -11,7 +11,7 @@ held (Wanting q reads x) r = false
 held (Loading q reads x seen loaded) r = false
 held (Locking q reads answer locked todo) r = has r locked
 held (Validating q t done todo answer writes) r = has r writes
-held (Storing q t j todo) r = has r todo
+held (Storing item j todo) r = has r todo
 held (Refusing q todo) r = has r todo
 
 -- the records that a phase is to store and close
@@ -22,7 +22,7 @@ stores (Wanting q reads x) r = false
 stores (Loading q reads x seen loaded) r = false
 stores (Locking q reads answer locked todo) r = false
 stores (Validating q t done todo answer writes) r = false
-stores (Storing q t j todo) r = has r todo
+stores (Storing item j todo) r = has r todo
 stores (Refusing q todo) r = false
 
 -- the phase may still close r with the stamp u
@@ -33,7 +33,7 @@ pending (Wanting q reads x) u r = false
 pending (Loading q reads x seen loaded) u r = false
 pending (Locking q reads answer locked todo) u r = false
 pending (Validating q t done todo answer writes) u r = (u == t) && has r writes
-pending (Storing q t j todo) u r = (u == t) && has r todo
+pending (Storing item j todo) u r = (u == item.stamp) && has r todo
 pending (Refusing q todo) u r = false
 
 -- no decided attempt holds r
@@ -108,7 +108,7 @@ module _ (G : Ground) where
     pub below : Below σ t writes
     pub past : t < σ.next
 
-  pub record StoringOk (σ : State) (w q t j : ℕ) (todo : List Install) : Type 0 where
+  pub record StoringOk (σ : State) (w t j : ℕ) (todo : List Install) : Type 0 where
     pub worker : (σ.log t).worker ≡ w
     pub status : decided (σ.log t).status ≡ true
     pub rows_are : Rows todo (σ.log t).writes
@@ -131,7 +131,7 @@ module _ (G : Ground) where
   Knows σ w (Loading q reads r seen loaded) = LoadingOk σ w q reads r seen loaded
   Knows σ w (Locking q reads answer locked todo) = LockingOk σ w q reads answer locked todo
   Knows σ w (Validating q t done todo answer writes) = ValidatingOk σ w q t done todo answer writes
-  Knows σ w (Storing q t j todo) = StoringOk σ w q t j todo
+  Knows σ w (Storing item j todo) = StoringOk σ w item.stamp j todo
   Knows σ w (Refusing q todo) = RefusingOk σ w todo
 
   -- a decided entry

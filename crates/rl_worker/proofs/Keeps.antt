@@ -68,16 +68,16 @@ module _ (G : Ground) where
         below = below_kept σ τ w k v t n writes h.holds h.below;
         past = omega (arith, k.next_up);
       }
-  knows_kept σ τ w k v n (Storing q t j todo) h =
-      let past : t < σ.next = h.past in
-      let mine : (σ.log t).worker ≢ w = rw h.worker n in
-      let same : τ.log t ≡ σ.log t = k.entry t past mine in
+  knows_kept σ τ w k v n (Storing item j todo) h =
+      let past : item.stamp < σ.next = h.past in
+      let mine : (σ.log item.stamp).worker ≢ w = rw h.worker n in
+      let same : τ.log item.stamp ≡ σ.log item.stamp = k.entry item.stamp past mine in
       record {
         worker = rw same h.worker;
         status = rw same h.status;
         rows_are = rw same h.rows_are;
         holds = holds_kept σ τ w k v n todo h.holds;
-        below = below_kept σ τ w k v t n todo h.holds h.below;
+        below = below_kept σ τ w k v item.stamp n todo h.holds h.below;
         past = omega (arith, k.next_up);
         distinct = h.distinct;
         widths = h.widths;

@@ -9,7 +9,7 @@ use mathlib.Core.Path.{fun_ext}
 use Rattle.rl_worker.proofs.States.{Answer, Read, Install, Rec, Void, Drawn, Decided, Entry, Ends, Phase, Rest, Asking, Wanting, Loading, Locking, Validating, Storing, Refusing, State, upd, has, with_read, goes, sets, asked, other}
 use Rattle.rl_worker.specs.Items.{insert_by_stamp}
 use Rattle.rl_worker.specs.Laws.{IsTrueCause, AllTrue}
-use Rattle.rl_worker.specs.Acts.{Cause, Locked, Changed, Effect, Quiet, Drew, Won, Lost, quiet, lost, act_result, Core, no_rec}
+use Rattle.rl_worker.specs.Acts.{Cause, Locked, Changed, Effect, Quiet, Drew, Won, Ended, Lost, quiet, lost, act_result, Core, no_rec}
 use Rattle.rl_worker.specs.Attempts.{next_after}
 use Rattle.rl_worker.proofs.Parts.{decided_after, refusals_after, parts, micro_at}
 use Rattle.rl_worker.proofs.Basics.{upd_same, upd_other, by_upd, by_test, test_lt, test_ge}
@@ -159,7 +159,7 @@ module _ (G : Ground) where
         let kn : Knows G σ w (Validating q t done [] answer writes) = rw e at (g.inv.knows w) in
         let past : (G.setting.base ≤ t) × (t < c.next) = g.inv.past t (rw kn.logged refl) in
         let is : item t (g.log t) ≡ record { stamp = t; worker = w; index = q; answer = answer; writes = writes } = ap (λ (z : Entry). item t z) kn.logged in
-        good_of 0 (get_or c.recs 0 no_rec) (Storing q t 0 writes) (Won (record { stamp = t; worker = w; index = q; answer = answer; writes = writes })) (inr refl)
+        good_of 0 (get_or c.recs 0 no_rec) (Storing (record { stamp = t; worker = w; index = q; answer = answer; writes = writes }) 0 writes) (Won (record { stamp = t; worker = w; index = q; answer = answer; writes = writes })) (inr refl)
         (upd g.log t (record (g.log t) { status = Decided })) g.count (rw (upd_back σ.recs 0) (decide_inv G L σ w q t done answer writes g.inv e)) g.count_is
         (ap (insert_by_stamp (record { stamp = t; worker = w; index = q; answer = answer; writes = writes })) g.items
         ∙ ap (λ z. insert_by_stamp z (items_from g.log G.setting.base g.count)) (sym is)
@@ -188,15 +188,16 @@ module _ (G : Ground) where
         (validate_inv G L σ w q t done y todo answer writes g.inv e (alone_now G L σ w q t done y todo answer writes g.inv e f (eqb-true (σ.recs y.rec).stamp y.seen s))))
         (λ s. lose_good q t done y todo answer writes (Changed (σ.recs y.rec).holder y.seen (σ.recs y.rec).stamp) (f, λ i. true≢false (sym (eq-eqb (σ.recs y.rec).stamp y.seen i) ∙ s)) e))
     micro_good (Validating q t done [] answer writes) e = win_good q t done answer writes e
-    micro_good (Storing q t j (y ∷ todo)) e =
-        let kn : Knows G σ w (Storing q t j (y ∷ todo)) = rw e at (g.inv.knows w) in
+    micro_good (Storing item j (y ∷ todo)) e =
+        let kn : Knows G σ w (Storing item j (y ∷ todo)) = rw e at (g.inv.knows w) in
         let here : y.rec < length c.recs = held_in c.recs y.rec w (kn.holds y.rec (rw (eq-eqb y.rec y.rec refl) refl)) in
         by_test (λ z. Good (parts c w y.rec z)) (nat_lt j (length y.row)) _ _
-        (λ s. sets_good y.rec (record { stamp = (σ.recs y.rec).stamp; holder = (σ.recs y.rec).holder; cells = set (σ.recs y.rec).cells j (get_or y.row j 0) }) (Storing q t (suc j) (y ∷ todo)) here
-        (store_inv G L σ w q t j y todo g.inv e (test_lt j (length y.row) s)))
-        (λ s. sets_good y.rec (record { stamp = t; holder = None; cells = (σ.recs y.rec).cells }) (Storing q t 0 todo) here
-        (close_inv G L σ w q t j y todo g.inv e (test_ge j (length y.row) s)))
-    micro_good (Storing q t j []) e = local_good 0 (Rest (suc q)) (rest_inv G L σ w q t j g.inv e)
+        (λ s. sets_good y.rec (record { stamp = (σ.recs y.rec).stamp; holder = (σ.recs y.rec).holder; cells = set (σ.recs y.rec).cells j (get_or y.row j 0) }) (Storing item (suc j) (y ∷ todo)) here
+        (store_inv G L σ w item j y todo g.inv e (test_lt j (length y.row) s)))
+        (λ s. sets_good y.rec (record { stamp = item.stamp; holder = None; cells = (σ.recs y.rec).cells }) (Storing item 0 todo) here
+        (close_inv G L σ w item j y todo g.inv e (test_ge j (length y.row) s)))
+    micro_good (Storing item j []) e =
+        good_of 0 (get_or c.recs 0 no_rec) (Rest (suc item.index)) (Ended item) (inr refl) g.log g.count (rw (upd_back σ.recs 0) (rest_inv G L σ w item j g.inv e)) g.count_is g.items g.causes
     micro_good (Refusing q (y ∷ todo)) e =
         let kn : Knows G σ w (Refusing q (y ∷ todo)) = rw e at (g.inv.knows w) in
         let here : y.rec < length c.recs = held_in c.recs y.rec w (kn.holds y.rec (rw (eq-eqb y.rec y.rec refl) refl)) in

@@ -4,6 +4,7 @@ use Rattle.std.proofs.lemmas.Grind.{common_steps}
 use Rattle.std.proofs.lemmas.Bool.Decides.{eqb_tells}
 use Rattle.rl_worker.proofs.States.{Answer, Read, Install, Status, Void, Drawn, Decided, Outcome, Wants, Ends, Phase, Rest, Asking, Wanting, Loading, Locking, Validating, Storing, Refusing, State, upd, has, with_read, live, decided, goes, asked}
 use Rattle.rl_worker.proofs.Inv.{held, stores, pending, settled_by, settled, Distinct, Version, Alone, Seen, AllAlone, ReadsOk, Knows, Inv}
+use Rattle.rl_worker.specs.Items.{CoreItem}
 use Rattle.rl_worker.proofs.Basics.{by_upd}
 use Rattle.rl_worker.proofs.Keeps.{Keeps, knows_kept, final_kept}
 pub use Rattle.rl_worker.proofs.OwnLaw.{Ground, Lawful}
@@ -163,8 +164,8 @@ module _ (G : Ground) (L : Lawful G) where
         past = kn.past;
       })
 
-  pub rest_inv : (σ : State) (w q t j : ℕ) → Inv G σ → σ.workers w ≡ Storing q t j [] → Inv G (goes σ w (Rest (suc q)))
-  rest_inv σ w q t j inv e = goes_inv σ w (Rest (suc q)) inv (λ r h. rw e at h) (λ r. rw e refl) (λ u r h. absurd (and_false (u == t) (rw e at h))) 0
+  pub rest_inv : (σ : State) (w : ℕ) (item : CoreItem) (j : ℕ) → Inv G σ → σ.workers w ≡ Storing item j [] → Inv G (goes σ w (Rest (suc item.index)))
+  rest_inv σ w item j inv e = goes_inv σ w (Rest (suc item.index)) inv (λ r h. rw e at h) (λ r. rw e refl) (λ u r h. absurd (and_false (u == item.stamp) (rw e at h))) 0
 
   pub released_inv : (σ : State) (w q : ℕ) → Inv G σ → σ.workers w ≡ Refusing q [] → Inv G (goes σ w (Rest q))
   released_inv σ w q inv e = goes_inv σ w (Rest q) inv (λ r h. rw e at h) (λ r. rw e refl) (λ u r h. rw e at h) 0

@@ -1,5 +1,5 @@
 -- Each worker's stamps rise, over its items and idle draws.
-use Rattle.std.proofs.Common.{◌≡◌, ◌≢◌, ℕ, zero, suc, ◌<◌, ◌≤◌, List, [], ◌∷◌, length, get_or, true, ◌==◌, nat_lt, Option, Some, None, refl, sym, ap, subst, arith, inl, inr, true≢false, length-set, is_some}
+use Rattle.std.proofs.Common.{◌≡◌, ◌≢◌, ℕ, suc, ◌<◌, ◌≤◌, List, [], ◌∷◌, length, get_or, true, ◌==◌, nat_lt, refl, sym, ap, subst, arith, inl, inr, true≢false, length-set, is_some}
 use Rattle.std.proofs.lemmas.Bool.Decides.{eqb_tells}
 use Rattle.rl_worker.proofs.States.{Answer, Read, Install, Rec, Outcome, Wants, Ends, Phase, Rest, Asking, Wanting, Loading, Locking, Validating, Storing, Refusing, Setting, asked, other, upd}
 use Rattle.rl_worker.specs.Acts.{ActResult, target, act_result, Core, no_rec, phase_of, opening_core, idle, resting, micro, passing, settle, begin, step, is_done, may, Turn, Step, Idle, turn, after_turns}
@@ -22,7 +22,7 @@ above_up (Wanting q reads r) xs n h = tt
 above_up (Loading q reads r seen loaded) xs n h = tt
 above_up (Locking q reads answer locked todo) xs n h = tt
 above_up (Validating q t done todo answer writes) xs n h = (omega (arith, h.0), h.1)
-above_up (Storing q t j todo) xs n h = tt
+above_up (Storing item j todo) xs n h = tt
 above_up (Refusing q todo) xs n h = tt
 
 above_rest : (p : Phase) (xs : List ℕ) (n : ℕ) → resting p ≡ true → DrawnAbove p xs n
@@ -32,7 +32,7 @@ above_rest (Wanting q reads r) xs n h = absurd (true≢false (sym h))
 above_rest (Loading q reads r seen loaded) xs n h = absurd (true≢false (sym h))
 above_rest (Locking q reads answer locked todo) xs n h = absurd (true≢false (sym h))
 above_rest (Validating q t done todo answer writes) xs n h = absurd (true≢false (sym h))
-above_rest (Storing q t j todo) xs n h = absurd (true≢false (sym h))
+above_rest (Storing item j todo) xs n h = absurd (true≢false (sym h))
 above_rest (Refusing q todo) xs n h = absurd (true≢false (sym h))
 
 stamps_own : (v w t : ℕ) (xs : List (ℕ × ℕ)) → v ≡ w → stamps_by v ((w, t) ∷ xs) ≡ t ∷ stamps_by w xs
@@ -117,9 +117,9 @@ module _ (S : Setting) (c : Core) (g : MadeOk c) (w : ℕ) (hw : w < length c.wo
       (λ f. by_test (λ z. IsPlain (Validating q t done (y ∷ todo) answer writes) z) ((get_or c.recs y.rec no_rec).stamp == y.seen) _ _
       (λ s. (refl, refl, λ h. h)) (λ s. (refl, refl, λ h. tt))))
   micro_made (Validating q t done [] answer writes) e = won q t done answer writes (get_or c.recs 0 no_rec) e
-  micro_made (Storing q t j (y ∷ todo)) e = plain_at (Storing q t j (y ∷ todo)) e
-      (by_test (λ z. IsPlain (Storing q t j (y ∷ todo)) z) (nat_lt j (length y.row)) _ _ (λ s. (refl, refl, λ h. tt)) (λ s. (refl, refl, λ h. tt)))
-  micro_made (Storing q t j []) e = plain_at (Storing q t j []) e (refl, refl, λ h. tt)
+  micro_made (Storing item j (y ∷ todo)) e = plain_at (Storing item j (y ∷ todo)) e
+      (by_test (λ z. IsPlain (Storing item j (y ∷ todo)) z) (nat_lt j (length y.row)) _ _ (λ s. (refl, refl, λ h. tt)) (λ s. (refl, refl, λ h. tt)))
+  micro_made (Storing item j []) e = plain_at (Storing item j []) e (refl, refl, λ h. tt)
   micro_made (Refusing q (y ∷ todo)) e = plain_at (Refusing q (y ∷ todo)) e (refl, refl, λ h. tt)
   micro_made (Refusing q []) e = plain_at (Refusing q []) e (refl, refl, λ h. tt)
 

@@ -1,5 +1,5 @@
 -- Each worker's items are its requests, in order and none twice.
-use Rattle.std.proofs.Common.{◌≡◌, ◌≢◌, ℕ, zero, suc, ◌+◌, ◌<◌, ◌≤◌, List, [], ◌∷◌, ◌++◌, length, get_or, ◌==◌, nat_lt, if◌then◌else◌, Option, Some, None, refl, sym, ap, ◌∙◌, arith, inl, inr, length-set, is_some, subst}
+use Rattle.std.proofs.Common.{◌≡◌, ◌≢◌, ℕ, zero, suc, ◌+◌, ◌<◌, ◌≤◌, List, [], ◌∷◌, ◌++◌, length, get_or, ◌==◌, nat_lt, if◌then◌else◌, refl, sym, ap, ◌∙◌, arith, inl, inr, length-set, is_some}
 use Rattle.std.proofs.lemmas.Bool.Decides.{eqb_tells}
 use Rattle.rl_worker.proofs.States.{Answer, Read, Install, Rec, Outcome, Wants, Ends, Phase, Rest, Asking, Wanting, Loading, Locking, Validating, Storing, Refusing, Setting, asked, other, upd}
 use Rattle.rl_worker.specs.Items.{CoreItem, insert_by_stamp}
@@ -18,7 +18,7 @@ number (Wanting q reads r) = q
 number (Loading q reads r seen loaded) = q
 number (Locking q reads answer locked todo) = q
 number (Validating q t done todo answer writes) = q
-number (Storing q t j todo) = suc q
+number (Storing item j todo) = suc item.index
 number (Refusing q todo) = q
 
 abbrev pub BelowOf : ℕ → ℕ → List CoreItem → Type 0
@@ -37,22 +37,22 @@ Latest (Wanting q reads r) w xs n = ℕ
 Latest (Loading q reads r seen loaded) w xs n = ℕ
 Latest (Locking q reads answer locked todo) w xs n = ℕ
 Latest (Validating q t done todo answer writes) w xs n = (t < n) × BelowOf w t xs
-Latest (Storing q t j todo) w xs n = ℕ
+Latest (Storing item j todo) w xs n = ℕ
 Latest (Refusing q todo) w xs n = ℕ
 
-below_of : (w t : ℕ) (xs : List CoreItem) → AllBelow t xs → BelowOf w t xs
+pub below_of : (w t : ℕ) (xs : List CoreItem) → AllBelow t xs → BelowOf w t xs
 below_of w t [] h = 0
 below_of w t (x ∷ xs) h = (λ e. h.0, below_of w t xs h.1)
 
-all_below_up : (t u : ℕ) (xs : List CoreItem) → t ≤ u → AllBelow t xs → AllBelow u xs
+pub all_below_up : (t u : ℕ) (xs : List CoreItem) → t ≤ u → AllBelow t xs → AllBelow u xs
 all_below_up t u [] l h = 0
 all_below_up t u (x ∷ xs) l h = (omega (arith, h.0), all_below_up t u xs l h.1)
 
-all_below_place : (t : ℕ) (x : CoreItem) (xs : List CoreItem) → x.stamp < t → AllBelow t xs → AllBelow t (insert_by_stamp x xs)
+pub all_below_place : (t : ℕ) (x : CoreItem) (xs : List CoreItem) → x.stamp < t → AllBelow t xs → AllBelow t (insert_by_stamp x xs)
 all_below_place t x [] l h = (l, 0)
 all_below_place t x (y ∷ ys) l h = by_test (λ z. AllBelow t z) (nat_lt x.stamp y.stamp) (x ∷ y ∷ ys) (y ∷ insert_by_stamp x ys) (λ e. (l, h)) (λ e. (h.0, all_below_place t x ys l h.1))
 
-below_of_place : (w t : ℕ) (x : CoreItem) (xs : List CoreItem) → x.worker ≢ w → BelowOf w t xs → BelowOf w t (insert_by_stamp x xs)
+pub below_of_place : (w t : ℕ) (x : CoreItem) (xs : List CoreItem) → x.worker ≢ w → BelowOf w t xs → BelowOf w t (insert_by_stamp x xs)
 below_of_place w t x [] n h = (λ e. absurd (n e), 0)
 below_of_place w t x (y ∷ ys) n h = by_test (λ z. BelowOf w t z) (nat_lt x.stamp y.stamp) (x ∷ y ∷ ys) (y ∷ insert_by_stamp x ys) (λ e. (λ i. absurd (n i), h)) (λ e. (h.0, below_of_place w t x ys n h.1))
 
@@ -132,7 +132,7 @@ module _ (first : ℕ → ℕ) where
         latest_up (Loading q reads r seen loaded) v h = 0
         latest_up (Locking q reads answer locked todo) v h = 0
         latest_up (Validating q t done todo answer writes) v h = (omega (arith, h.0), h.1)
-        latest_up (Storing q t j todo) v h = 0
+        latest_up (Storing item j todo) v h = 0
         latest_up (Refusing q todo) v h = 0
 
     won : (q t : ℕ) (done : List Read) (answer : Answer) (writes : List Install) (x : Rec) → phase_of c w ≡ Validating q t done [] answer writes
@@ -164,7 +164,7 @@ module _ (first : ℕ → ℕ) where
         latest_place (Loading q reads r seen loaded) v n h = 0
         latest_place (Locking q reads answer locked todo) v n h = 0
         latest_place (Validating q2 t2 done todo reply2 writes2) v n h = (h.0, below_of_place v t2 (record { stamp = t; worker = w; index = q; answer = answer; writes = writes }) c.decided n h.1)
-        latest_place (Storing q t j todo) v n h = 0
+        latest_place (Storing item j todo) v n h = 0
         latest_place (Refusing q todo) v n h = 0
 
     asked_number : (q : ℕ) (reads : List Read) (o : Outcome) → (number (asked q reads o) ≡ q) × Latest (asked q reads o) w c.decided c.next
@@ -195,9 +195,9 @@ module _ (first : ℕ → ℕ) where
         (λ f. by_test (λ z. IsPlain (Validating q t done (y ∷ todo) answer writes) z) ((get_or c.recs y.rec no_rec).stamp == y.seen) _ _
         (λ s. (refl, refl, refl, λ h. h)) (λ s. (refl, refl, refl, λ h. 0))))
     micro_numbered (Validating q t done [] answer writes) e = won q t done answer writes (get_or c.recs 0 no_rec) e
-    micro_numbered (Storing q t j (y ∷ todo)) e = plain_at (Storing q t j (y ∷ todo)) e
-        (by_test (λ z. IsPlain (Storing q t j (y ∷ todo)) z) (nat_lt j (length y.row)) _ _ (λ s. (refl, refl, refl, λ h. 0)) (λ s. (refl, refl, refl, λ h. 0)))
-    micro_numbered (Storing q t j []) e = plain_at (Storing q t j []) e (refl, refl, refl, λ h. 0)
+    micro_numbered (Storing item j (y ∷ todo)) e = plain_at (Storing item j (y ∷ todo)) e
+        (by_test (λ z. IsPlain (Storing item j (y ∷ todo)) z) (nat_lt j (length y.row)) _ _ (λ s. (refl, refl, refl, λ h. 0)) (λ s. (refl, refl, refl, λ h. 0)))
+    micro_numbered (Storing item j []) e = plain_at (Storing item j []) e (refl, refl, refl, λ h. 0)
     micro_numbered (Refusing q (y ∷ todo)) e = plain_at (Refusing q (y ∷ todo)) e (refl, refl, refl, λ h. 0)
     micro_numbered (Refusing q []) e = plain_at (Refusing q []) e (refl, refl, refl, λ h. 0)
 
@@ -208,7 +208,7 @@ module _ (first : ℕ → ℕ) where
   latest_more (Loading q reads r seen loaded) v n xs h = 0
   latest_more (Locking q reads answer locked todo) v n xs h = 0
   latest_more (Validating q t done todo answer writes) v n xs h = (omega (arith, h.0), h.1)
-  latest_more (Storing q t j todo) v n xs h = 0
+  latest_more (Storing item j todo) v n xs h = 0
   latest_more (Refusing q todo) v n xs h = 0
 
   pub idle_numbered : (c : Core) (w : ℕ) → Numbered c → Numbered (idle c w)

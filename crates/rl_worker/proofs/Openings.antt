@@ -2,8 +2,8 @@
 use Rattle.std.proofs.Common.{◌≡◌, ℕ, zero, suc, ◌+◌, ◌<◌, List, [], ◌∷◌, ◌++◌, length, map, slice_get, slice_index, Option, Some, None, refl, ap, sym, ◌∙◌, subst, arith, All, inl, inr, ◌≤◌, ◌^◌}
 use Rattle.std.specs.List.{range_with_len}
 use Rattle.std.specs.FinMap as finite
-use Rattle.rl_value.specs.Rows.{Rows, place_cmp}
-use Rattle.rl_value.specs.Tables.{Table, size_of, columns_of}
+use Rattle.rl_value.specs.Rows.{Rows}
+use Rattle.rl_value.specs.Tables.{Table, columns_of}
 use Rattle.rl_tables.specs.Numbers.{sizes_of, place_of}
 use Rattle.rl_txn.proofs.Folds.{range_push}
 use Rattle.rl_worker.specs.declared.words.Record.{Record}

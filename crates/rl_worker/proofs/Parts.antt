@@ -2,13 +2,18 @@
 use Rattle.std.proofs.Common.{◌≡◌, ℕ, List, ◌∷◌, get_or, set, refl}
 use Rattle.rl_worker.specs.Phases.{Phase, Setting}
 use Rattle.rl_worker.specs.Items.{CoreItem, insert_by_stamp}
-use Rattle.rl_worker.specs.Acts.{CoreRefusal, Effect, Quiet, Drew, Won, Lost, ActResult, Core, no_rec, target, act_result, after_effect, core_after_act, phase_of, micro, settle, begin}
+use Rattle.rl_worker.specs.Acts.{CoreRefusal, Effect, Quiet, Drew, Won, Ended, Lost, ActResult, Core, no_rec, target, act_result, after_effect, core_after_act, phase_of, micro, settle, begin}
 use Rattle.rl_worker.specs.Attempts.{next_after}
 
 -- the decided items after an effect
 abbrev pub decided_after : List CoreItem → Effect → List CoreItem
 decided_after xs (Won x) = insert_by_stamp x xs
 decided_after xs e = xs
+
+-- the items that have ended after an effect
+abbrev pub ended_after : List CoreItem → Effect → List CoreItem
+ended_after xs (Ended x) = x ∷ xs
+ended_after xs e = xs
 
 -- the refusals after an effect
 abbrev pub refusals_after : List CoreRefusal → Effect → List CoreRefusal
@@ -27,6 +32,7 @@ parts c w k m = record {
   workers = set c.workers w m.phase;
   next = next_after c.next m.effect;
   decided = decided_after c.decided m.effect;
+  ended = ended_after c.ended m.effect;
   refusals = refusals_after c.refusals m.effect;
   made = made_after c.made m.effect;
 }
@@ -39,10 +45,11 @@ pub act_parts : (c : Core) (w k : ℕ) (m : ActResult) → core_after_act c w k 
 act_parts c w k m = go m.effect
   where
     go : (e : Effect) → after_effect (record c { recs = set c.recs k m.rec; workers = set c.workers w m.phase }) e
-        ≡ record { recs = set c.recs k m.rec; workers = set c.workers w m.phase; next = next_after c.next e; decided = decided_after c.decided e; refusals = refusals_after c.refusals e; made = made_after c.made e }
+        ≡ record { recs = set c.recs k m.rec; workers = set c.workers w m.phase; next = next_after c.next e; decided = decided_after c.decided e; ended = ended_after c.ended e; refusals = refusals_after c.refusals e; made = made_after c.made e }
     go Quiet = refl
     go Drew = refl
     go (Won x) = refl
+    go (Ended x) = refl
     go (Lost f) = refl
 
 pub micro_parts : (S : Setting) (c : Core) (w : ℕ) → micro S c w ≡ micro_at S c w (phase_of c w)

@@ -1,5 +1,5 @@
 -- A read that counts is known to the evaluation.
-use Rattle.std.proofs.Common.{◌≡◌, ℕ, zero, suc, ◌≤◌, List, [], ◌∷◌, length, nat_lt, Bool, true, false, not, is_some, if◌then◌else◌, ◌==◌, Option, Some, None, refl, sym, ap, ◌∙◌, subst, arith, cond, set, All, ◌+◌, ◌*◌}
+use Rattle.std.proofs.Common.{◌≡◌, ℕ, zero, suc, ◌≤◌, List, [], ◌∷◌, length, nat_lt, Bool, true, false, not, is_some, if◌then◌else◌, ◌==◌, Option, Some, None, refl, sym, ap, ◌∙◌, subst, arith, cond, All, ◌+◌, ◌*◌}
 use mathlib.Core.Bool.{false≢true}
 use Rattle.std.proofs.lemmas.Bool.Decides.{nat_tests}
 use Rattle.std.specs.Ordering.{eq_by_cmp, is_eq}
@@ -18,7 +18,6 @@ use Rattle.rl_worker.specs.declared.act.Act.TheVariants as act
 use Rattle.rl_worker.specs.declared.reading.Reading.{Reading}
 use Rattle.rl_worker.specs.declared.words.Words.{Words}
 use Rattle.rl_worker.specs.Phases.{Read, Rec, Rest, Asking, Loading, Setting, with_read}
-use Rattle.rl_worker.specs.Acts.{quiet, lost, Changed}
 use Rattle.rl_worker.specs.Opening.{overlay_of}
 use Rattle.rl_value.specs.Cells.{row_of}
 use Rattle.rl_worker.specs.Told.{found, word}

@@ -20,7 +20,7 @@ use Rattle.rl_txn.specs.declared.eval.Wants as eval
 use Rattle.rl_txn.specs.declared.eval.Wants.TheVariants.{Read as WantsRead, Ended as WantsEnded}
 use Rattle.rl_txn.specs.declared.write.End.{End}
 use Rattle.rl_txn.specs.declared.write.Write.{Write}
-use Rattle.rl_worker.specs.Phases.{Answer, Read, Install, Rec, Wants, Ends, Rest, Setting}
+use Rattle.rl_worker.specs.Phases.{Answer, Read, Install, Rec, Wants, Ends, Rest}
 use Rattle.rl_worker.specs.Acts.{no_rec}
 use Rattle.rl_value.specs.Cells.{cells_of}
 use Rattle.rl_worker.specs.Opening.{overlay_of, install_of, outcome_of, outcome, request, asks, opening_rec, opening_recs, setting_of, first_of, at_rest, OpenLeader, CoreFits}

@@ -1,13 +1,13 @@
 -- Once every stamp up to t is decided or refused, no item with a stamp up to t comes later.
-use Rattle.std.proofs.Common.{◌≡◌, ℕ, ◌<◌, ◌≤◌, List, [], ◌∷◌, length, get_or, true, false, ◌==◌, ◌&&◌, nat_lt, nat_le, if◌then◌else◌, Option, Some, None, refl, sym, ap, ◌∙◌, subst, arith, length-set, is_some}
+use Rattle.std.proofs.Common.{◌≡◌, ℕ, ◌<◌, ◌≤◌, List, [], ◌∷◌, length, get_or, false, ◌==◌, nat_lt, nat_le, if◌then◌else◌, refl, sym, ap, ◌∙◌, subst, arith, length-set, is_some}
 use Rattle.std.proofs.lemmas.Bool.Decides.{nat_tests}
-use Rattle.rl_worker.proofs.States.{Answer, Read, Install, Rec, Outcome, Wants, Ends, Phase, Rest, Asking, Wanting, Loading, Locking, Validating, Storing, Refusing, Setting, asked, other}
+use Rattle.rl_worker.proofs.States.{Read, Rec, Outcome, Wants, Ends, Phase, Rest, Asking, Wanting, Loading, Locking, Validating, Storing, Refusing, Setting, asked, other}
 use Rattle.rl_worker.specs.Items.{CoreItem, insert_by_stamp}
 use Rattle.rl_worker.specs.Laws.{early, Above, IsSettled}
 use Rattle.rl_worker.specs.Acts.{ActResult, target, act_result, Core, no_rec, phase_of, micro, passing, resting, settle, begin, step, is_done, may, idle, Turn, Step, Idle, turn, after_turns}
 use Rattle.rl_worker.specs.Attempts.{next_after}
 use Rattle.rl_worker.proofs.Parts.{micro_parts, decided_after, step_on}
-use Rattle.rl_worker.proofs.Basics.{by_upd, by_test, test_lt}
+use Rattle.rl_worker.proofs.Basics.{by_upd, by_test}
 use Rattle.rl_worker.proofs.Lift.{set_reads}
 use Rattle.rl_worker.proofs.Whole.{there}
 
@@ -45,8 +45,8 @@ module _ (S : Setting) (t : ℕ) where
     later (Validating q u done (y ∷ todo) answer writes) a x = by_test (λ z. Later (Validating q u done (y ∷ todo) answer writes) z) (other w x.holder) _ _ (λ f. (refl, omega arith, λ h. tt))
         (λ f. by_test (λ z. Later (Validating q u done (y ∷ todo) answer writes) z) (x.stamp == y.seen) _ _ (λ g. (refl, omega arith, λ h. h)) (λ g. (refl, omega arith, λ h. tt)))
     later (Validating q u done [] answer writes) a x = (early_place t (record { stamp = u; worker = w; index = q; answer = answer; writes = writes }) c.decided a, omega arith, λ h. tt)
-    later (Storing q u j (y ∷ todo)) a x = by_test (λ z. Later (Storing q u j (y ∷ todo)) z) (nat_lt j (length y.row)) _ _ (λ g. (refl, omega arith, λ h. tt)) (λ g. (refl, omega arith, λ h. tt))
-    later (Storing q u j []) a x = (refl, omega arith, λ h. tt)
+    later (Storing item j (y ∷ todo)) a x = by_test (λ z. Later (Storing item j (y ∷ todo)) z) (nat_lt j (length y.row)) _ _ (λ g. (refl, omega arith, λ h. tt)) (λ g. (refl, omega arith, λ h. tt))
+    later (Storing item j []) a x = (refl, omega arith, λ h. tt)
     later (Refusing q (y ∷ todo)) a x = (refl, omega arith, λ h. tt)
     later (Refusing q []) a x = (refl, omega arith, λ h. tt)
 

@@ -11,7 +11,6 @@ use Rattle.rl_worker.specs.declared.words.Words.{Words}
 use Rattle.rl_worker.specs.declared.worker.Stage.TheVariants as stage
 use Rattle.rl_worker.specs.declared.worker.Worker.{Worker}
 use Rattle.rl_worker.specs.Phases.{Rest, Wants, Setting}
-use Rattle.rl_worker.specs.Acts.{no_rec}
 use Rattle.rl_worker.specs.Workers.{reading_phase, commit_phase, phase_of_worker, CommitFits, decided_at}
 use Rattle.rl_worker.specs.Attempts.{reading_left, IsAct, IsOfAttempt, IsCommitting, decided, is_over, ended_worker, finished, Commits}
 

@@ -100,7 +100,7 @@ module _ (G : Ground) (L : Lawful G) where
   -- ---- a decision ----
   module _ (σ : State) (w q t : ℕ) (done : List Read) (answer : Answer) (writes : List Install) (inv : Inv G σ) (e : σ.workers w ≡ Validating q t done [] answer writes) where
     abbrev decide_phase : Phase
-    decide_phase = Storing q t 0 writes
+    decide_phase = Storing (record { stamp = t; worker = w; index = q; answer = answer; writes = writes }) 0 writes
 
     abbrev decide_entry : Entry
     decide_entry = record (σ.log t) { status = Decided }

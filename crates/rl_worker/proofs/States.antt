@@ -1,5 +1,5 @@
 -- The acts over functions by number, beside a log of all stamps that were drawn.
-use Rattle.std.proofs.Common.{ℕ, suc, List, [], ◌∷◌, ◌++◌, length, get_or, set, Bool, true, false, ◌==◌, nat_lt, if◌then◌else◌, Option, Some, None}
+use Rattle.std.proofs.Common.{ℕ, suc, List, Bool, true, false, ◌==◌, if◌then◌else◌}
 pub use Rattle.rl_worker.specs.Phases.{Answer, Read, Install, Rec, Outcome, Wants, Ends, Phase, Rest, Asking, Wanting, Loading, Locking, Validating, Storing, Refusing, Setting, with_read, asked, other}
 pub use Rattle.rl_worker.proofs.OwnLaw.{has, row_at}
 

@@ -4,7 +4,6 @@ use mathlib.Core.Bool.{false≢true}
 use Rattle.std.specs.Option.{option_map, option_map_or, option_and_then}
 use Rattle.std.proofs.lemmas.List.{set-set, set-get_or}
 use Rattle.std.proofs.lemmas.List.Sums.{sum_by-cons}
-use Rattle.rl_value.specs.Rows.{Rows}
 use Rattle.rl_value.specs.Tables.{Table}
 use Rattle.rl_txn.specs.Fits.{ListsFit}
 use Rattle.rl_txn.specs.Serial.{numbered}
@@ -23,10 +22,10 @@ use Rattle.rl_worker.specs.Phases.{Read, Phase, Rest, Asking, Wanting, Loading, 
 use Rattle.rl_worker.specs.Acts.{Core, resting, target, micro, settle, step, begin, is_done}
 use Rattle.rl_worker.proofs.Parts.{step_on}
 use Rattle.rl_worker.specs.Opening.{outcome, request, setting_of}
-use Rattle.rl_worker.specs.Workers.{part_phase, reading_phase, stage_phase, phase_of_worker, StageFits, is_resting, decided_at, decided_item, act_of_step, Stands, stamp_next, either, newly_decided, with_item, WorkerFits, Steps}
+use Rattle.rl_worker.specs.Workers.{core_item, part_phase, reading_phase, stage_phase, phase_of_worker, StageFits, is_resting, decided_at, decided_item, act_of_step, Stands, stamp_next, either, newly_decided, with_item, WorkerFits, Steps}
 use Rattle.rl_worker.specs.Attempts.{IsAttemptOf, IsActed, Loaded, Confirmed, Committed, HasBegun, Began, Went}
 use Rattle.rl_worker.specs.Told.{found, act_of}
-use Rattle.rl_worker.proofs.CodeItems.{core_item, IsOf, stamp_by, CodeSteps, seen_steps}
+use Rattle.rl_worker.proofs.CodeItems.{IsOf, stamp_by, CodeSteps, seen_steps}
 use Rattle.rl_worker.specs.Acts as acts
 use Rattle.rl_worker.proofs.Cores.{At, Settled, begun}
 use Rattle.rl_worker.proofs.Stages.{no_setting}
@@ -102,7 +101,7 @@ not_done s w (Wanting q reads r) h = refl
 not_done s w (Loading q reads r seen loaded) h = refl
 not_done s w (Locking q reads answer locked todo) h = refl
 not_done s w (Validating q t done todo answer writes) h = refl
-not_done s w (Storing q t j todo) h = refl
+not_done s w (Storing item j todo) h = refl
 not_done s w (Refusing q todo) h = refl
 
 -- what an act tells of itself
@@ -139,7 +138,7 @@ module _ (tables : List Table) (s : Setting) (old : Worker) (words : Words) (cor
     at : At core old.number (Rest old.index) words.records.items (stamp_next old.epoch words)
     at = record { recs = st.recs; next = st.next; there = st.there; phase = st.phase ∙ ap (stage_phase tables old.index) rest }
 
-    after : Settled core (begin s core old.number) old.number (asked old.index [] (s.ask old.number old.index [])) None words.records.items (stamp_next old.epoch words)
+    after : Settled core (begin s core old.number) old.number (asked old.index [] (s.ask old.number old.index [])) None None words.records.items (stamp_next old.epoch words)
     after = begun s core old.number words.records.items (stamp_next old.epoch words) old.index at
 
     more : is_done s old.number (acts.phase_of core old.number) ≡ false
@@ -185,6 +184,8 @@ module _ (tables : List Table) (s : Setting) (old : Worker) (words : Words) (cor
             made = t.made ∙ ap (λ z. option_to_list (option_map stamp_by (newly_decided w new told)) ++ z) after.made
                 ∙ ap (λ o. option_to_list (option_map stamp_by (if is_some o then None else either told.ended (decided_item new))) ++ core.made) (none ∙ sym was);
             ended = t.ended;
+            core_ended = t.core_ended ∙ ap (λ z. option_to_list (option_map (core_item tables) told.ended) ++ z) after.ended;
+            ended_of = to_old told.ended t.ended_of;
             index = t.index ∙ ap (λ n. n + (if is_some told.ended then 1 else 0)) attempt.index;
           })
         where
@@ -232,6 +233,8 @@ module _ (tables : List Table) (s : Setting) (old : Worker) (words : Words) (cor
         made = sym (ap (λ o. option_to_list (option_map stamp_by (if is_some o then None else either told.ended o)) ++ core.made) none
             ∙ ap (λ o. option_to_list (option_map stamp_by o) ++ core.made) (ended_only told.ended ended));
         ended = ends told.ended ended;
+        core_ended = sym (ap (λ o. option_to_list (option_map (core_item tables) o) ++ core.ended) ended);
+        ended_of = nothing told.ended false ended;
         index = counts told.ended ended;
       })
     where

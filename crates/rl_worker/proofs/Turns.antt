@@ -18,28 +18,29 @@ use Rattle.rl_worker.specs.declared.reading.Reading.{Reading}
 use Rattle.rl_worker.specs.declared.worker.Stage.{Stage}
 use Rattle.rl_worker.specs.declared.worker.Stage.TheVariants as stage
 use Rattle.rl_worker.specs.declared.worker.Worker.{Worker}
+use Rattle.rl_worker.specs.Items.{CoreItem}
 use Rattle.rl_worker.specs.Phases.{Read, Install, Outcome, Wants, Ends, Phase, Rest, Asking, Wanting, Loading, Locking, Validating, Storing, Refusing, Setting, asked}
 use Rattle.rl_worker.specs.Acts.{Core, passing, resting, micro, settle}
 use Rattle.rl_worker.specs.Opening.{install_of, outcome}
-use Rattle.rl_worker.specs.Workers.{installs, part_phase, commit_phase, reading_phase, stage_phase, phase_of_worker, PartFits, HasMore, StageFits, is_storing, decided_at, decided_item, Stands, stamp_next, either, newly_decided, with_item}
+use Rattle.rl_worker.specs.Workers.{core_item, installs, part_phase, commit_phase, reading_phase, stage_phase, phase_of_worker, PartFits, HasMore, StageFits, is_storing, decided_at, decided_item, Stands, stamp_next, either, newly_decided, with_item}
 use Rattle.rl_worker.specs.Attempts.{IsAttemptOf, IsAct, is_over, decided_in, decided, ended_worker, finished, is_reading, confirmed_phase, ran_on, Confirms, Commits, IsActed, Loaded, Confirmed, Committed}
-use Rattle.rl_worker.proofs.CodeItems.{core_item, IsOf, stamp_by, CodeSteps}
+use Rattle.rl_worker.proofs.CodeItems.{IsOf, stamp_by, CodeSteps}
 use Rattle.rl_worker.specs.Acts as acts
-use Rattle.rl_worker.proofs.Cores.{passed, wins, index_in, At, acted, settled, stamps_added}
+use Rattle.rl_worker.proofs.Cores.{passed, wins, ends, index_in, At, acted, settled, stamps_added}
 
 -- nothing is passed in a phase in which a worker may stand
-pub not_passed : (s : Setting) (w : ℕ) (p : Phase) → passing p ≡ false → (passed s w p ≡ p) × (wins w p ≡ None)
-not_passed s w (Rest q) h = (refl, refl)
+pub not_passed : (s : Setting) (w : ℕ) (p : Phase) → passing p ≡ false → (passed s w p ≡ p) × (wins w p ≡ None) × (ends p ≡ None)
+not_passed s w (Rest q) h = (refl, refl, refl)
 not_passed s w (Asking q reads) h = absurd (false≢true (sym h))
-not_passed s w (Wanting q reads r) h = (refl, refl)
-not_passed s w (Loading q reads r seen loaded) h = (refl, refl)
-not_passed s w (Locking q reads answer l todo) h = (refl, refl)
+not_passed s w (Wanting q reads r) h = (refl, refl, refl)
+not_passed s w (Loading q reads r seen loaded) h = (refl, refl, refl)
+not_passed s w (Locking q reads answer l todo) h = (refl, refl, refl)
 not_passed s w (Validating q t done [] answer writes) h = absurd (false≢true (sym h))
-not_passed s w (Validating q t done (y ∷ todo) answer writes) h = (refl, refl)
-not_passed s w (Storing q t j []) h = absurd (false≢true (sym h))
-not_passed s w (Storing q t j (y ∷ todo)) h = (refl, refl)
+not_passed s w (Validating q t done (y ∷ todo) answer writes) h = (refl, refl, refl)
+not_passed s w (Storing item j []) h = absurd (false≢true (sym h))
+not_passed s w (Storing item j (y ∷ todo)) h = (refl, refl, refl)
 not_passed s w (Refusing q []) h = absurd (false≢true (sym h))
-not_passed s w (Refusing q (y ∷ todo)) h = (refl, refl)
+not_passed s w (Refusing q (y ∷ todo)) h = (refl, refl, refl)
 
 some_left : {X : Type 0} (xs : List X) (i : ℕ) (P : List X → Type 0) → i < length xs → ((y : X) (ys : List X) → P (y ∷ ys)) → P (drop i xs)
 some_left {X = X} xs i P l k = go (drop i xs) refl
@@ -56,7 +57,7 @@ still_part tables c (part.Locking held) f m = refl
 still_part tables c (part.Validating done) f m = some_left c.reads.0 done (λ ys. passing (Validating c.item.index (packed c.item.stamp) (take done c.reads.0) ys (c.item.reply, c.item.writes) (installs tables c)) ≡ false) m (λ y ys. refl)
 still_part tables c (part.Storing closed stored) f m =
     let n = installs_length tables c in
-    some_left (installs tables c) closed (λ ys. passing (Storing c.item.index (packed c.item.stamp) stored ys) ≡ false) (omega arith) (λ y ys. refl)
+    some_left (installs tables c) closed (λ ys. passing (Storing (core_item tables c.item) stored ys) ≡ false) (omega arith) (λ y ys. refl)
 still_part tables c (part.Refusing closed held) f m =
     let n = installs_length tables c in
     let t = length-take-le held (installs tables c) (omega (arith, f.1)) in
@@ -101,6 +102,11 @@ same_index : (old new : Worker) (o : Option txn.Item) → new.index ≡ old.inde
 same_index old new None e n = e ∙ omega arith
 same_index old new (Some x) e n = absurd (cc)
 
+-- passing a phase twice ends an item of the code or none
+abbrev pub IsOver : List Table → Option txn.Item → Setting → (w : ℕ) → Phase → Type 0
+IsOver tables item s w to = (xs : List CoreItem)
+    → option_to_list (ends (passed s w to)) ++ (option_to_list (ends to) ++ xs) ≡ option_to_list (option_map (core_item tables) item) ++ xs
+
 -- what an act and what follows it come to, by the phase that the act leads to
 pub record Turned (tables : List Table) (s : Setting) (old new : Worker) (words words' : Words) (told : code.Moved) : Type 0 where
   pub to : Phase
@@ -113,6 +119,8 @@ pub record Turned (tables : List Table) (s : Setting) (old new : Worker) (words 
   pub kept : IfSome (decided_item old) (λ x. either told.ended (decided_item new) ≡ Some x)
   pub stamped : IfSome (newly_decided old new told) (IsOf old)
   pub ended : IfSome told.ended (λ x. decided_item new ≡ None)
+  pub over : IsOver tables told.ended s old.number to
+  pub ended_of : IfSome told.ended (IsOf old)
   pub index : new.index ≡ old.index + (if is_some told.ended then 1 else 0)
 
 -- then it is a step of the core
@@ -148,6 +156,8 @@ turned tables txn s old new words words' told core fits st t =
       stamped = t.stamped;
       made = c.made ∙ ap (λ o. stamps_added o ++ (settle s (micro s core w) w).made) t.second ∙ b.made ∙ ap (λ o. stamps_added o ++ (micro s core w).made) t.first ∙ ap (λ z. stamps_added (option_map (core_item tables) (newly_decided old new told)) ++ z) a.made ∙ ap (λ z. z ++ core.made) (stamp_of_item tables (newly_decided old new told));
       ended = t.ended;
+      core_ended = c.ended ∙ ap (λ z. option_to_list (ends (passed s w t.to)) ++ z) (b.ended ∙ ap (λ z. option_to_list (ends t.to) ++ z) a.ended) ∙ t.over core.ended;
+      ended_of = t.ended_of;
       index = t.index;
     }
   where
@@ -179,6 +189,9 @@ kept_none : (P : txn.Item → Type 0) (o : Option txn.Item) → o ≡ None → I
 kept_none P None e = tt
 kept_none P (Some x) e = absurd (cc)
 
+none_over : (tables : List Table) (s : Setting) (w : ℕ) (to : Phase) (o : Option txn.Item) → o ≡ None → ends to ≡ None → ends (passed s w to) ≡ None → IsOver tables o s w to
+none_over tables s w to o e first second xs = rw (e, first, second) refl
+
 same_told : (s : Setting) (w e : ℕ) (p p' : Phase) (words words' : Words) (told : code.Moved) → IsAct s w e p p' words words' told → IsAct s w e p p' words words' (record told { ended = None })
 same_told s w e p p' words words' told a = record { phase = a.phase; recs = a.recs; next = a.next; refused = a.refused; act = a.act; ended = refl }
 
@@ -199,6 +212,8 @@ turned_loaded tables txn s old new words told reads attempt fits none act =
       kept = kept_none _ (decided_item old) (reads_none old.stage reads);
       stamped = kept_none _ (newly_decided old new told) (newly_none old new told none a.ended);
       ended = kept_none _ told.ended a.ended;
+      over = none_over tables s old.number to told.ended a.ended stay.2 (ap ends stay.0 ∙ stay.2);
+      ended_of = kept_none _ told.ended a.ended;
       index = same_index old new told.ended attempt.index a.ended;
     }
 
@@ -226,6 +241,8 @@ turned_confirmed tables txn s old new words told asks reads attempt none c = go 
           kept = kept_none _ (decided_item old) (reads_none old.stage reads);
           stamped = kept_none _ (newly_decided old new told) (newly_none old new told none a.ended);
           ended = kept_none _ told.ended a.ended;
+          over = none_over tables s old.number (Asking old.index r.reads.0) told.ended a.ended refl stay.2;
+          ended_of = kept_none _ told.ended a.ended;
           index = same_index old new told.ended attempt.index a.ended;
         }
     go (Err f) act ran =
@@ -241,6 +258,8 @@ turned_confirmed tables txn s old new words told asks reads attempt none c = go 
           kept = kept_none _ (decided_item old) (reads_none old.stage reads);
           stamped = kept_none _ (newly_decided old new told) (newly_none old new told none a.ended);
           ended = kept_none _ told.ended a.ended;
+          over = none_over tables s old.number (Rest old.index) told.ended a.ended refl refl;
+          ended_of = kept_none _ told.ended a.ended;
           index = same_index old new told.ended attempt.index a.ended;
         }
 
@@ -253,6 +272,7 @@ pub record Comes (tables : List Table) (s : Setting) (old : Worker) (t : Commit)
   pub phase : passed s old.number (passed s old.number (commit_phase tables t)) ≡ phase_of_worker tables (finished old (decided t))
   pub first : wins old.number (commit_phase tables t) ≡ option_map (core_item tables) (if is_storing t.part then None else either (over_item (decided t)) (decided_item (finished old (decided t))))
   pub second : wins old.number (passed s old.number (commit_phase tables t)) ≡ None
+  pub over : IsOver tables (over_item (decided t)) s old.number (commit_phase tables t)
   pub kept : is_storing t.part ≡ true → either (over_item (decided t)) (decided_item (finished old (decided t))) ≡ Some t.item
 
 module _ (tables : List Table) (s : Setting) (old : Worker) (c : Commit) (i : c.item.index ≡ old.index) (w_is : c.item.worker ≡ old.number) where
@@ -261,20 +281,22 @@ module _ (tables : List Table) (s : Setting) (old : Worker) (c : Commit) (i : c.
 
   -- a decided commit is over where all its writes are installed
   storing : (at stored : ℕ) → at ≤ length c.item.writes
-      → (passed s old.number (Storing c.item.index (packed c.item.stamp) stored (drop at (installs tables c))) ≡ phase_of_worker tables (finished old (record c { part = part.Storing at stored })))
-      × (passed s old.number (passed s old.number (Storing c.item.index (packed c.item.stamp) stored (drop at (installs tables c)))) ≡ phase_of_worker tables (finished old (record c { part = part.Storing at stored })))
+      → (passed s old.number (Storing (core_item tables c.item) stored (drop at (installs tables c))) ≡ phase_of_worker tables (finished old (record c { part = part.Storing at stored })))
+      × (passed s old.number (passed s old.number (Storing (core_item tables c.item) stored (drop at (installs tables c)))) ≡ phase_of_worker tables (finished old (record c { part = part.Storing at stored })))
       × (either (over_item (record c { part = part.Storing at stored })) (decided_item (finished old (record c { part = part.Storing at stored }))) ≡ Some c.item)
+      × (ends (Storing (core_item tables c.item) stored (drop at (installs tables c))) ≡ option_map (core_item tables) (over_item (record c { part = part.Storing at stored })))
+      × (ends (passed s old.number (Storing (core_item tables c.item) stored (drop at (installs tables c)))) ≡ None)
   storing at stored f = elim (eqb_tells at (length c.item.writes)) [
     | inl e ↦ (
         let n = installs_length tables c in
         let none : drop at (installs tables c) ≡ [] = drop_all at (installs tables c) (omega (arith, e.1)) in
-        (rw (e.0, none) (ap Rest (sym (add-one c.item.index) ∙ ap (λ k. k + 1) i)), rw (e.0, none) (ap Rest (sym (add-one c.item.index) ∙ ap (λ k. k + 1) i)), rw e.0 refl))
+        (rw (e.0, none) (ap Rest (sym (add-one c.item.index) ∙ ap (λ k. k + 1) i)), rw (e.0, none) (ap Rest (sym (add-one c.item.index) ∙ ap (λ k. k + 1) i)), rw e.0 refl, rw (e.0, none) refl, rw none refl))
     | inr e ↦ (
         let n = installs_length tables c in
         let more : at < length (installs tables c) = omega (arith, e.1) in
-        let stay = some_left (installs tables c) at (λ ys. passing (Storing c.item.index (packed c.item.stamp) stored ys) ≡ false) more (λ y ys. refl) in
-        let k = not_passed s old.number (Storing c.item.index (packed c.item.stamp) stored (drop at (installs tables c))) stay in
-        (rw e.0 k.0, rw e.0 (ap (passed s old.number) k.0 ∙ k.0), rw e.0 refl))
+        let stay = some_left (installs tables c) at (λ ys. passing (Storing (core_item tables c.item) stored ys) ≡ false) more (λ y ys. refl) in
+        let k = not_passed s old.number (Storing (core_item tables c.item) stored (drop at (installs tables c))) stay in
+        (rw e.0 k.0, rw e.0 (ap (passed s old.number) k.0 ∙ k.0), rw e.0 refl, rw e.0 k.2, ap ends k.0 ∙ k.2))
   ]
 
   refusing : (at held : ℕ) → at ≤ held → held ≤ length c.item.writes
@@ -282,35 +304,50 @@ module _ (tables : List Table) (s : Setting) (old : Worker) (c : Commit) (i : c.
       × (wins old.number (passed s old.number (Refusing c.item.index (drop at (take held (installs tables c))))) ≡ None)
       × (wins old.number (Refusing c.item.index (drop at (take held (installs tables c)))) ≡ None)
       × (either (over_item (record c { part = part.Refusing at held })) (decided_item (finished old (record c { part = part.Refusing at held }))) ≡ None)
+      × (over_item (record c { part = part.Refusing at held }) ≡ None)
+      × (ends (passed s old.number (Refusing c.item.index (drop at (take held (installs tables c))))) ≡ None)
   refusing at held f g =
       let n = installs_length tables c in
       let t = length-take-le held (installs tables c) (omega (arith, g)) in
       elim (eqb_tells at held) [
         | inl e ↦ (
             let none : drop at (take held (installs tables c)) ≡ [] = drop_all at (take held (installs tables c)) (omega (arith, e.1)) in
-            (rw (e.0, none) (ap Rest i), rw none refl, refl, rw e.0 refl))
+            (rw (e.0, none) (ap Rest i), rw none refl, refl, rw e.0 refl, rw e.0 refl, rw none refl))
         | inr e ↦ (
             let stay = some_left (take held (installs tables c)) at (λ ys. passing (Refusing c.item.index ys) ≡ false) (omega (arith, e.1)) (λ y ys. refl) in
             let p : Phase = Refusing c.item.index (drop at (take held (installs tables c))) in
             let k = not_passed s old.number p stay in
-            (rw e.0 (ap (passed s old.number) k.0 ∙ k.0), ap (wins old.number) k.0 ∙ k.1, k.1, rw e.0 refl))
+            (rw e.0 (ap (passed s old.number) k.0 ∙ k.0), ap (wins old.number) k.0 ∙ k.1, k.1, rw e.0 refl, rw e.0 refl, ap ends k.0 ∙ k.2))
       ]
 
+  abbrev won_item : CoreItem
+  won_item = record { stamp = packed c.item.stamp; worker = old.number; index = c.item.index; answer = (c.item.reply, c.item.writes); writes = installs tables c }
+
+  won_item_is : won_item ≡ core_item tables c.item
+  won_item_is = ap (λ k. record { stamp = packed c.item.stamp; worker = k; index = c.item.index; answer = (c.item.reply, c.item.writes); writes = installs tables c }) (sym w_is)
+
+  won_is : Some won_item ≡ option_map (core_item tables) (Some c.item)
+  won_is = ap Some won_item_is
+
+  won_phase : Storing won_item 0 (installs tables c) ≡ Storing (core_item tables c.item) 0 (installs tables c)
+  won_phase = ap (λ z. Storing z 0 (installs tables c)) won_item_is
+
   comes : (p : Part) → PartFits (record c { part = p }) p → Comes tables s old (record c { part = p })
-  comes (part.Locking held) f = record { phase = refl; first = refl; second = refl; kept = λ h. absurd (false≢true h) }
+  comes (part.Locking held) f = record { phase = refl; first = refl; second = refl; over = λ xs. refl; kept = λ h. absurd (false≢true h) }
   comes (part.Storing at stored) f =
       let st = storing at stored f in
       record {
         phase = st.1;
         first = no_win (drop at (installs tables c));
         second = no_second (drop at (installs tables c));
+        over = λ xs. rw (st.4, st.3) refl;
         kept = λ h. st.2;
       }
     where
-      no_win : (ys : List Install) → wins old.number (Storing c.item.index (packed c.item.stamp) stored ys) ≡ None
+      no_win : (ys : List Install) → wins old.number (Storing (core_item tables c.item) stored ys) ≡ None
       no_win ys = refl
 
-      no_second : (ys : List Install) → wins old.number (passed s old.number (Storing c.item.index (packed c.item.stamp) stored ys)) ≡ None
+      no_second : (ys : List Install) → wins old.number (passed s old.number (Storing (core_item tables c.item) stored ys)) ≡ None
       no_second [] = refl
       no_second (y ∷ ys) = refl
   comes (part.Validating done) f = elim (eqb_tells done (length c.reads.0)) [
@@ -318,9 +355,10 @@ module _ (tables : List Table) (s : Setting) (old : Worker) (c : Commit) (i : c.
         let none : drop done c.reads.0 ≡ [] = drop_all done c.reads.0 (omega (arith, e.1)) in
         let st = storing 0 0 (omega arith) in
         record {
-          phase = rw (none, e.0) st.0;
+          phase = rw (none, e.0) (ap (passed s old.number) won_phase ∙ st.0);
           first = rw (none, e.0) (won_is ∙ ap (option_map (core_item tables)) (sym st.2));
           second = rw none refl;
+          over = λ xs. rw (none, e.0) (ap (λ z. option_to_list (ends z) ++ xs) won_phase ∙ ap (λ z. option_to_list z ++ xs) st.3);
           kept = λ h. absurd (false≢true h);
         })
     | inr e ↦ (
@@ -331,15 +369,13 @@ module _ (tables : List Table) (s : Setting) (old : Worker) (c : Commit) (i : c.
           phase = rw e.0 (ap (passed s old.number) k.0 ∙ k.0);
           first = rw e.0 k.1;
           second = ap (wins old.number) k.0 ∙ k.1;
+          over = λ xs. rw e.0 (ap (λ z. option_to_list (ends z) ++ xs) k.0);
           kept = λ h. absurd (false≢true h);
         })
   ]
-    where
-      won_is : Some (record { stamp = packed c.item.stamp; worker = old.number; index = c.item.index; answer = (c.item.reply, c.item.writes); writes = installs tables c }) ≡ option_map (core_item tables) (Some c.item)
-      won_is = ap (λ k. Some (record { stamp = packed c.item.stamp; worker = k; index = c.item.index; answer = (c.item.reply, c.item.writes); writes = installs tables c })) (sym w_is)
   comes (part.Refusing at held) f =
       let r = refusing at held f.0 f.1 in
-      record { phase = r.0; first = r.2 ∙ ap (option_map (core_item tables)) (sym r.3); second = r.1; kept = λ h. absurd (false≢true h) }
+      record { phase = r.0; first = r.2 ∙ ap (option_map (core_item tables)) (sym r.3); second = r.1; over = λ xs. rw (r.5, r.4) refl; kept = λ h. absurd (false≢true h) }
 
 turned_committed : (tables : List Table) (s : Setting) (old new : Worker) (words words' : Words) (told : code.Moved) → (c : Commits tables old new words words' told)
     → c.was.item.worker ≡ old.number → c.was.item.index ≡ old.index → c.was.item.stamp.epoch ≡ old.epoch → Turned tables s old new words words' told
@@ -365,6 +401,8 @@ turned_committed tables s old new words words' told c w_is i_is e_is =
       stamped = subst (λ o. IfSome o (IsOf old)) (sym newly) (
           either_of (is_some (decided_item old)) (over_item (decided t)) (decided_item (finished old (decided t))) (over_of (decided t) (item_of t t.part)) (last_of (decided t) (item_of t t.part)));
       ended = subst (λ o. IfSome o (λ x. decided_item new ≡ None)) (sym c.ended) (subst (λ (z : Worker). IfSome (over_item (decided t)) (λ x. decided_item z ≡ None)) (sym c.new_is) (over_none (decided t) (is_over (decided t) (decided t).part) refl));
+      over = λ xs. m.over xs ∙ ap (λ o. option_to_list (option_map (core_item tables) o) ++ xs) (sym c.ended);
+      ended_of = subst (λ o. IfSome o (IsOf old)) (sym c.ended) (over_of (decided t) (item_of t t.part));
       index = ap (λ (z : Worker). z.index) c.new_is ∙ over_index (decided t) (is_over (decided t) (decided t).part) refl ∙ ap (λ o. old.index + (if is_some o then 1 else 0)) (sym c.ended);
     }
   where

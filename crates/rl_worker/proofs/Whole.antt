@@ -4,9 +4,9 @@ use Rattle.rl_worker.proofs.Basics.{by_test, test_lt, rest_at}
 use Rattle.rl_worker.proofs.States.{Rec, Void, Entry, Phase, Rest, Asking, Wanting, Loading, Locking, Validating, Storing, Refusing, State, decided, Setting}
 use Rattle.rl_worker.proofs.OwnLaw.{Ground, Serial, Rising, Lawful, InLists}
 use Rattle.rl_worker.specs.Laws.{AllTrue}
-use Rattle.rl_worker.specs.Acts.{Core, no_rec, phase_of, micro, passing, resting, settle, begin, step, is_done, may, idle, Turn, Step, Idle, turn, after_turns, target, act_result, opening_core}
+use Rattle.rl_worker.specs.Acts.{Core, no_rec, phase_of, micro, passing, resting, settle, begin, step, is_done, may, idle, Turn, Step, Idle, turn, after_turns, opening_core}
 use Rattle.rl_worker.proofs.Parts.{micro_parts, step_on}
-use Rattle.rl_worker.proofs.OwnLaw.{AllFree, AllRest, Opens}
+use Rattle.rl_worker.proofs.OwnLaw.{AllFree, Opens}
 use Rattle.rl_worker.proofs.Inv.{Inv, Knows}
 use Rattle.rl_worker.proofs.Keeps.{Keeps, knows_kept, final_kept}
 use Rattle.rl_worker.proofs.Local.{decided_lives}
@@ -117,7 +117,7 @@ module _ (G : Ground) (L : Lawful G) (first : ℕ → ℕ) where
   knows_rest σ w (Loading q reads r seen loaded) h = absurd (true≢false (sym h))
   knows_rest σ w (Locking q reads answer locked todo) h = absurd (true≢false (sym h))
   knows_rest σ w (Validating q t done todo answer writes) h = absurd (true≢false (sym h))
-  knows_rest σ w (Storing q t j todo) h = absurd (true≢false (sym h))
+  knows_rest σ w (Storing item j todo) h = absurd (true≢false (sym h))
   knows_rest σ w (Refusing q todo) h = absurd (true≢false (sym h))
 
   none_yet : ℕ → Entry
@@ -152,7 +152,7 @@ module _ (G : Ground) (L : Lawful G) (first : ℕ → ℕ) where
   latest_rest (Loading q reads r seen loaded) w n h = absurd (true≢false (sym h))
   latest_rest (Locking q reads answer locked todo) w n h = absurd (true≢false (sym h))
   latest_rest (Validating q t done todo answer writes) w n h = absurd (true≢false (sym h))
-  latest_rest (Storing q t j todo) w n h = absurd (true≢false (sym h))
+  latest_rest (Storing item j todo) w n h = absurd (true≢false (sym h))
   latest_rest (Refusing q todo) w n h = absurd (true≢false (sym h))
 
   opening_fine : (recs : List Rec) (workers : List Phase) → Opens G recs workers → ((w : ℕ) → w < length workers → get_or workers w (Rest 0) ≡ Rest (first w)) → Fine (opening_core G.setting recs workers)

@@ -22,7 +22,7 @@ use Rattle.rl_txn.specs.declared.write.End.TheVariants.{Done, Declined}
 use Rattle.rl_txn.proofs.RowSets.{places_total, same_place}
 use Rattle.rl_worker.specs.Opening.{install_of}
 use Rattle.rl_worker.proofs.OwnLaw.{Distinct, has}
-use Rattle.rl_worker.proofs.Places.{place_of_record}
+use Rattle.rl_tables.proofs.Places.{place_of_record}
 
 abbrev pub Entry : Type 0
 Entry = (ℕ × ℕ) × Option (List ℕ)

@@ -1,6 +1,6 @@
 -- The records and the workers of an open leader as lists, and what one step of a worker does to them.
 use Rattle.std.specs.Prelude.{ℕ, suc, List, [], ◌∷◌, ◌++◌, length, get_or, set, Bool, true, false, not, ◌&&◌, ◌==◌, nat_lt, is_some, if◌then◌else◌, Option, Some, None}
-use Rattle.rl_worker.specs.Phases.{Answer, Read, Install, Rec, Phase, Rest, Asking, Wanting, Loading, Locking, Validating, Storing, Refusing, Setting, with_read, asked, other}
+use Rattle.rl_worker.specs.Phases.{Rec, Phase, Rest, Asking, Wanting, Loading, Locking, Validating, Storing, Refusing, Setting, with_read, asked, other}
 use Rattle.rl_worker.specs.Items.{CoreItem, insert_by_stamp}
 
 -- why an attempt was refused: the holder then and the stamp found, or also the stamp that it saw first
@@ -15,11 +15,13 @@ pub record CoreRefusal : Type 0 where
   pub rec : ℕ
   pub cause : Cause
 
--- what an act tells of its attempt: nothing, that it drew a stamp, that it is decided, or refused
+-- what an act tells of its attempt: nothing, that it drew a stamp, that it is decided, that a decided one has ended, or
+-- that it is refused
 pub data Effect : Type 0 where
   Quiet : Effect
   Drew : Effect
   Won : CoreItem → Effect
+  Ended : CoreItem → Effect
   Lost : CoreRefusal → Effect
 
 -- what an act comes to: the worker's phase, what the record holds that it looks at, and the effect
@@ -34,7 +36,7 @@ target (Wanting q reads r) = r
 target (Loading q reads r seen loaded) = r
 target (Locking q reads answer locked (x ∷ todo)) = x.rec
 target (Validating q t done (x ∷ todo) answer writes) = x.rec
-target (Storing q t j (x ∷ todo)) = x.rec
+target (Storing item j (x ∷ todo)) = x.rec
 target (Refusing q (x ∷ todo)) = x.rec
 target p = 0
 
@@ -46,6 +48,10 @@ quiet x p = record { phase = p; rec = x; effect = Quiet }
 abbrev pub lost : Rec → Phase → (w q r : ℕ) → Cause → ActResult
 lost x p w q r c =
     record { phase = p; rec = x; effect = Lost (record { worker = w; index = q; rec = r; cause = c }) }
+
+-- an attempt is decided, and installs what it writes from here on
+abbrev pub decides : Rec → CoreItem → ActResult
+decides x item = record { phase = Storing item 0 item.writes; rec = x; effect = Won item }
 
 -- one small act of worker w in a phase, where x is what its record holds and n is the next stamp
 abbrev pub act_result : Setting → (w n : ℕ) → Phase → (x : Rec) → ActResult
@@ -69,26 +75,25 @@ act_result S w n (Validating q t done (y ∷ todo) answer writes) x =
     if other w x.holder then lost x (Refusing q writes) w q y.rec (Locked x.holder x.stamp)
     else if x.stamp == y.seen then quiet x (Validating q t (done ++ y ∷ []) todo answer writes)
     else lost x (Refusing q writes) w q y.rec (Changed x.holder y.seen x.stamp)
-act_result S w n (Validating q t done [] answer writes) x = record {
-  phase = Storing q t 0 writes;
-  rec = x;
-  effect = Won (record { stamp = t; worker = w; index = q; answer = answer; writes = writes });
-}
-act_result S w n (Storing q t j (y ∷ todo)) x =
+act_result S w n (Validating q t done [] answer writes) x =
+    decides x (record { stamp = t; worker = w; index = q; answer = answer; writes = writes })
+act_result S w n (Storing item j (y ∷ todo)) x =
     if nat_lt j (length y.row)
-    then quiet (record x { cells = set x.cells j (get_or y.row j 0) }) (Storing q t (suc j) (y ∷ todo))
-    else quiet (record x { stamp = t; holder = None }) (Storing q t 0 todo)
-act_result S w n (Storing q t j []) x = quiet x (Rest (suc q))
+    then quiet (record x { cells = set x.cells j (get_or y.row j 0) }) (Storing item (suc j) (y ∷ todo))
+    else quiet (record x { stamp = item.stamp; holder = None }) (Storing item 0 todo)
+act_result S w n (Storing item j []) x =
+    record { phase = Rest (suc item.index); rec = x; effect = Ended item }
 act_result S w n (Refusing q (y ∷ todo)) x = quiet (record x { holder = None }) (Refusing q todo)
 act_result S w n (Refusing q []) x = quiet x (Rest q)
 
--- the records of an open leader, its workers, the next stamp, what is decided by stamp, the refusals and what was
--- made (worker and stamp of each item and idle draw), both the latest first
+-- the records of an open leader, its workers, the next stamp, what is decided by stamp, and, the latest first, the
+-- items that have ended, the refusals and what was made (worker and stamp of each item and idle draw)
 pub record Core : Type 0 where
   pub recs : List Rec
   pub workers : List Phase
   pub next : ℕ
   pub decided : List CoreItem
+  pub ended : List CoreItem
   pub refusals : List CoreRefusal
   pub made : List (ℕ × ℕ)
 
@@ -101,6 +106,7 @@ abbrev pub after_effect : Core → Effect → Core
 after_effect c Quiet = c
 after_effect c Drew = record c { next = suc c.next }
 after_effect c (Won x) = record c { decided = insert_by_stamp x c.decided; made = (x.worker, x.stamp) ∷ c.made }
+after_effect c (Ended x) = record c { ended = x ∷ c.ended }
 after_effect c (Lost f) = record c { refusals = f ∷ c.refusals }
 
 -- the core after worker w made an act on record k
@@ -122,7 +128,7 @@ micro S c w =
 abbrev pub passing : Phase → Bool
 passing (Asking q reads) = true
 passing (Validating q t done [] answer writes) = true
-passing (Storing q t j []) = true
+passing (Storing item j []) = true
 passing (Refusing q []) = true
 passing p = false
 
@@ -175,4 +181,4 @@ after_turns S c (t ∷ ts) = after_turns S (turn S c t) ts
 -- the core at the opening: these records and workers, and nothing decided
 abbrev pub opening_core : Setting → List Rec → (workers : List Phase) → Core
 opening_core S recs workers =
-    record { recs = recs; workers = workers; next = S.base; decided = []; refusals = []; made = [] }
+    record { recs = recs; workers = workers; next = S.base; decided = []; ended = []; refusals = []; made = [] }

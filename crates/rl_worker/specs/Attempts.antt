@@ -2,7 +2,7 @@
 use Rattle.std.specs.Prelude.{◌≡◌, ℕ, suc, ◌+◌, ◌≤◌, List, [], length, set, Bool, true, false, nat_le, ◌==◌, ◌&&◌, if◌then◌else◌, Option, Some, None, Result, Ok, Err, All}
 use Rattle.rl_base.specs.declared.refusal.Refusal.{Refusal}
 use Rattle.rl_value.specs.Tables.{Table}
-use Rattle.rl_txn.specs.Eval.{IsEval, known, reads_room}
+use Rattle.rl_txn.specs.Eval.{IsEval, rows_given, reads_room}
 use Rattle.rl_txn.specs.declared.op.Op.{Op}
 use Rattle.rl_worker.specs.declared.act.Moved.{Moved}
 use Rattle.rl_worker.specs.declared.words.Words.{Words}
@@ -14,7 +14,7 @@ use Rattle.rl_worker.specs.declared.worker.Stage.{Stage}
 use Rattle.rl_worker.specs.declared.worker.Stage.TheVariants as stage
 use Rattle.rl_worker.specs.declared.worker.Worker.{Worker}
 use Rattle.rl_worker.specs.Phases.{Phase, Rest, Asking, Setting, asked}
-use Rattle.rl_worker.specs.Acts.{Effect, Quiet, Drew, Won, Lost, ActResult, target, act_result}
+use Rattle.rl_worker.specs.Acts.{Effect, Drew, Lost, ActResult, target, act_result}
 use Rattle.rl_worker.specs.Opening.{overlay_of, outcome}
 use Rattle.rl_worker.specs.Told.{found, refused, act_of}
 use Rattle.rl_worker.specs.Workers.{reading_phase, commit_phase, phase_of_worker, ReadFits, CommitFits, IsCommitOf, StageFits, is_resting, is_storing, decided_at, decided_item, stamp_next}
@@ -47,7 +47,7 @@ pub record IsAct (s : Setting) (w epoch : ℕ) (p p' : Phase) (words words' : Wo
 -- between two records: all that was read is known to the evaluation
 pub record IsAsking (tables : List Table) (txn : List Op) (r : Reading) : Type 0 where
   pub eval : IsEval tables txn r.eval
-  pub known : known r.eval ≡ overlay_of tables r.reads.0
+  pub known : rows_given r.eval ≡ overlay_of tables r.reads.0
   pub room : reads_room r.eval ≤ r.reads.1
   pub closed : r.is_open ≡ false
   pub reads : All (ReadFits tables) r.reads.0

@@ -2,7 +2,9 @@ pub mod Acts
 pub mod Attempts
 pub mod Items
 pub mod Laws
+pub mod OneTurn
 pub mod Opening
 pub mod Phases
+pub mod Stamping
 pub mod Told
 pub mod Workers

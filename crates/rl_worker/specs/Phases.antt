@@ -1,23 +1,14 @@
 -- Records, and the phases of an attempt: it reads, locks what it writes, draws a stamp, validates what it
 -- read, and installs (after Silo's commit protocol).
 use Rattle.std.specs.Prelude.{ℕ, List, [], ◌∷◌, Bool, false, not, ◌==◌, nat_lt, if◌then◌else◌, Option, Some, None}
-use Rattle.rl_txn.specs.declared.write.Reply.{Reply}
-use Rattle.rl_txn.specs.declared.write.Write.{Write}
 use Rattle.rl_worker.specs.declared.reads.Read as reads
 use Rattle.rl_worker.specs.declared.words.Record as words
-
--- what a transaction answers and writes
-abbrev pub Answer : Type 0
-Answer = Reply × List Write
+pub use Rattle.rl_worker.specs.Items.{Answer, Install}
+use Rattle.rl_worker.specs.Items.{CoreItem}
 
 -- a read that counts: the record, the stamp that was seen, and its cells, which are presence and columns
 abbrev pub Read : Type 0
 Read = reads.Read
-
--- a record that is to be written, and its new cells
-pub record Install : Type 0 where
-  pub rec : ℕ
-  pub row : List ℕ
 
 -- a record: its stamp, the worker that holds it, its cells
 abbrev pub Rec : Type 0
@@ -37,7 +28,7 @@ pub data Phase : Type 0 where
   Loading : (q : ℕ) → List Read → (r seen : ℕ) → (loaded : List ℕ) → Phase
   Locking : (q : ℕ) → List Read → (answer : Answer) → (locked todo : List Install) → Phase
   Validating : (q t : ℕ) → (done todo : List Read) → (answer : Answer) → (writes : List Install) → Phase
-  Storing : (q t stored : ℕ) → (todo : List Install) → Phase
+  Storing : (item : CoreItem) → (stored : ℕ) → (todo : List Install) → Phase
   Refusing : (q : ℕ) → (todo : List Install) → Phase
 
 -- what stays the same: which requests there are and what they do, the first stamp and the one past the last

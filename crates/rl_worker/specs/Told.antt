@@ -1,5 +1,5 @@
 -- What the code tells of records, of acts and of refusals: words in the place of stamps and holders.
-use Rattle.std.specs.Prelude.{ℕ, ◌+◌, ◌*◌, ◌<◌, List, [], ◌∷◌, length, sum, get_or, nat_lt, is_some, if◌then◌else◌, Option, Some, None, IfSome}
+use Rattle.std.specs.Prelude.{ℕ, ◌+◌, ◌*◌, ◌<◌, List, [], ◌∷◌, length, sum, get_or, nat_lt, is_some, if◌then◌else◌, Option, IfSome}
 use Rattle.rl_base.specs.declared.refusal.Refusal.{Refusal}
 use Rattle.rl_base.specs.declared.refusal.Refusal.TheVariants as refusals
 use Rattle.rl_value.specs.Tables.{Table}
@@ -48,7 +48,7 @@ act_of n (Loading q reads r seen loaded) x =
 act_of n (Locking q reads answer locked []) x = act.Draw n
 act_of n (Locking q reads answer locked (y ∷ todo)) x = act.Lock y.rec (word x)
 act_of n (Validating q t done (y ∷ todo) answer writes) x = act.Validate y.rec (word x)
-act_of n (Storing q t j (y ∷ todo)) x =
-    if nat_lt j (length y.row) then act.ColumnStore y.rec j (get_or y.row j 0) else act.Close y.rec (2 * t)
+act_of n (Storing item j (y ∷ todo)) x =
+    if nat_lt j (length y.row) then act.ColumnStore y.rec j (get_or y.row j 0) else act.Close y.rec (2 * item.stamp)
 act_of n (Refusing q (y ∷ todo)) x = act.Close y.rec (2 * x.stamp)
 act_of n p x = act.Rest

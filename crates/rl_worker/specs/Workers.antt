@@ -1,10 +1,10 @@
 -- What a worker stands for among the phases of a core, what it keeps from step to step, and what a step does.
-use Rattle.std.specs.Prelude.{◌≡◌, ℕ, ◌+◌, ◌*◌, ◌^◌, ◌<◌, ◌≤◌, List, ◌∷◌, ◌++◌, length, map, sum, take, drop, set, Bool, true, false, is_some, if◌then◌else◌, Option, Some, None, IfSome, IsSomeAnd, option_to_list, All, Contains}
+use Rattle.std.specs.Prelude.{◌≡◌, ℕ, ◌+◌, ◌*◌, ◌^◌, ◌<◌, ◌≤◌, List, ◌++◌, length, map, sum, take, drop, set, Bool, true, false, is_some, if◌then◌else◌, Option, Some, None, IfSome, IsSomeAnd, option_to_list, All, Contains}
 use Rattle.std.specs.Option.{option_map}
 use Rattle.rl_base.specs.Stamps.{packed}
 use Rattle.rl_value.specs.Tables.{Table, columns_of}
 use Rattle.rl_tables.specs.Numbers.{sizes_of, place_of}
-use Rattle.rl_txn.specs.Eval.{IsEval, Awaits, awaited, known, reads_room}
+use Rattle.rl_txn.specs.Eval.{IsEval, Awaits, awaited, rows_given, reads_room}
 use Rattle.rl_txn.specs.Fits.{WriteFits}
 use Rattle.rl_txn.specs.declared.op.Op.{Op}
 use Rattle.rl_txn.specs.declared.item.Item.{Item}
@@ -35,6 +35,16 @@ reading_phase q r =
 abbrev pub installs : List Table → Commit → List Install
 installs tables c = map (install_of tables) c.item.writes
 
+-- a decided item as the core has it
+abbrev pub core_item : List Table → Item → CoreItem
+core_item tables x = record {
+  stamp = packed x.stamp;
+  worker = x.worker;
+  index = x.index;
+  answer = (x.reply, x.writes);
+  writes = map (install_of tables) x.writes;
+}
+
 -- the phase of a commit, by its part
 abbrev pub part_phase : List Table → Commit → Part → Phase
 part_phase tables c (part.Locking held) =
@@ -44,7 +54,7 @@ part_phase tables c (part.Validating done) =
     Validating c.item.index (packed c.item.stamp) (take done c.reads.0) (drop done c.reads.0)
     (c.item.reply, c.item.writes) (installs tables c)
 part_phase tables c (part.Storing closed stored) =
-    Storing c.item.index (packed c.item.stamp) stored (drop closed (installs tables c))
+    Storing (core_item tables c.item) stored (drop closed (installs tables c))
 part_phase tables c (part.Refusing closed held) =
     Refusing c.item.index (drop closed (take held (installs tables c)))
 
@@ -107,7 +117,7 @@ ReadFits tables x = (x.rec < sum (sizes_of tables)) × (x.seen < 2 ^ 60)
 -- the evaluation waits for the record that is loaded
 pub record IsReading (tables : List Table) (txn : List Op) (r : Reading) : Type 0 where
   pub eval : IsEval tables txn r.eval
-  pub known : known r.eval ≡ overlay_of tables r.reads.0
+  pub known : rows_given r.eval ≡ overlay_of tables r.reads.0
   pub room : reads_room r.eval ≤ r.reads.1
   pub reads : All (ReadFits tables) r.reads.0
   pub awaits : Awaits r.eval
@@ -218,6 +228,10 @@ pub record Steps (tables : List Table) (old new : Worker) (words : Words) (told 
   pub seen : newly_decided old new told ≡ option_map (item_seen (epoch_of old)) item
   pub kept : IfSome (decided_item old) (λ x. either told.ended (decided_item new) ≡ Some x)
   pub ended : IfSome told.ended (λ x. decided_item new ≡ None)
+  -- the core ended an item or none, and it is what the code ended, as it is seen
+  pub over : Option CoreItem
+  pub core_ended : core'.ended ≡ option_to_list over ++ core.ended
+  pub ended_seen : told.ended ≡ option_map (item_seen (epoch_of old)) over
   pub has_decided : HasDecided core old → HasDecided core' new
   -- the core refused an attempt of this worker's request or none, and it is what the code refused, as it is told
   pub refusal : Option CoreRefusal

@@ -5,6 +5,7 @@ pub mod act;
 pub mod cells;
 mod commit;
 pub mod laws;
+pub mod opening;
 mod reading;
 mod reads;
 pub mod words;

@@ -4,7 +4,7 @@ ghost use Rattle.std.specs.Prelude.{◌≡◌, ℕ, ◌+◌, ◌*◌, ◌^◌, �
 ghost use Rattle.std.specs.FinMap as finite;
 ghost use Rattle.std.specs.Result.{result_err};
 ghost use Rattle.rl_txn.specs.Fits.{TxnFits};
-ghost use Rattle.rl_txn.specs.Eval.{Awaits, awaited, known, reads_room, IsEval};
+ghost use Rattle.rl_txn.specs.Eval.{Awaits, awaited, rows_given, reads_room, IsEval};
 ghost use Rattle.rl_txn.specs.declared.op.Op.{Op};
 ghost use Rattle.rl_value.specs.Tables.{Table};
 ghost use Rattle.rl_worker.specs.Phases.{Setting, with_read};
@@ -152,7 +152,7 @@ impl Reading {
         requires awaits { Awaits self.eval }
         requires room { 0 < self.reads.1 }
         requires row { 2 ≤ length self.next.row }
-        ensures given { known result.eval ≡ finite.insert (known self.eval) (awaited self.eval) (row_of self.next.row) }
+        ensures given { rows_given result.eval ≡ finite.insert (rows_given self.eval) (awaited self.eval) (row_of self.next.row) }
         ensures eval { (tables : List Table) (txn : List Op) → IsEval tables txn self.eval → IsEval tables txn result.eval }
         ensures reads { result.reads.0 ≡ with_read self.next self.reads.0 }
         ensures less { reads_room self.eval ≡ reads_room result.eval + 1 }

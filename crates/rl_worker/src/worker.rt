@@ -1,6 +1,6 @@
 //! One worker of an open leader.
 
-ghost use Rattle.std.specs.Prelude.{◌≡◌, ℕ, List, [], ◌+◌, ◌-◌, ◌*◌, ◌^◌, ◌<◌, ◌≤◌, IfOk, OnOk, OnErr, IfSome, IfNone, IsErr, Some, None, true, false, length};
+ghost use Rattle.std.specs.Prelude.{◌≡◌, ℕ, List, [], ◌+◌, ◌-◌, ◌*◌, ◌^◌, ◌<◌, ◌≤◌, IfOk, OnOk, OnErr, IfSome, IfNone, IsErr, IsTrue, Some, None, true, false, length};
 ghost use Rattle.std.specs.Option.{option_copied};
 ghost use Rattle.std.specs.Result.{result_err};
 ghost use Rattle.rl_value.specs.Rows.{Rows};
@@ -8,7 +8,7 @@ ghost use Rattle.rl_tables.specs.Numbers.{sizes_of};
 ghost use Rattle.rl_value.specs.Tables.{Table};
 ghost use Rattle.rl_txn.specs.Fits.{TxnFits, ListsFit};
 ghost use Rattle.rl_txn.specs.Run.{run};
-ghost use Rattle.rl_txn.specs.Eval.{HasEnded, IsEval, HasRows, known};
+ghost use Rattle.rl_txn.specs.Eval.{HasEnded, IsEval, HasRows, rows_given};
 ghost use Rattle.rl_txn.specs.declared.op.Op.{Op};
 ghost use Rattle.rl_worker.specs.declared.commit.Commit.{Commit};
 ghost use Rattle.rl_worker.specs.Phases.{asked, Rest, Setting};
@@ -74,9 +74,11 @@ impl Worker {
         }
     }
 
-    /// Whether it is at rest.
+    /// Whether it is at rest. Then it stands before the request `next`, and no decided item is open.
     pub fn at_rest(&self) -> bool
-        ensures { (tables : List Table) → result ≡ resting (phase_of_worker tables self.now) }
+        ensures rests { (tables : List Table) → result ≡ resting (phase_of_worker tables self.now) }
+        ensures next { IsTrue result → (tables : List Table) → phase_of_worker tables self.now ≡ Rest (next_of self.now) }
+        ensures undecided { IsTrue result → decided_item self.now ≡ None }
     {
         matches!(self.stage, Stage::Resting)
     }
@@ -88,7 +90,7 @@ impl Worker {
         self.index
     }
 
-    /// The decided item of an attempt that has not ended yet, if there is one.
+    /// The decided item of an attempt that has not ended yet, if there is one: the one that it installs.
     pub fn decided(&self) -> Option<&Item>
         ensures { option_copied result ≡ decided_item self.now }
     {
@@ -157,7 +159,7 @@ impl Worker {
         ensures index { result.item.index ≡ self.now.index }
         ensures stamp { result.item.stamp ≡ record { epoch = self.now.epoch; seq = 0 } }
         ensures run { (tables : List Table) (txn : List Op) (rows : Rows)
-            → IsEval tables txn reading.eval → HasRows (known reading.eval) rows
+            → IsEval tables txn reading.eval → HasRows (rows_given reading.eval) rows
             → (result.item.reply, result.item.writes) ≡ run tables txn rows }
     {
         let Reading {

@@ -1,6 +1,6 @@
 use Rattle.std.proofs.Common.{◌≡◌, ℕ, sym, ap, ◌∙◌, subst, rules}
 use Rattle.std.specs.FinMap as finite
-use Rattle.rl_txn.specs.Eval.{HasRows, known, awaited}
+use Rattle.rl_txn.specs.Eval.{HasRows, rows_given}
 use Rattle.rl_txn.proofs.Evals.{have_none, have_given}
 use Rattle.rl_txn.proofs.run.run.Goals as goal
 
@@ -16,8 +16,8 @@ loop-table-preserved c =
     let place : ℕ × ℕ = (c.in-Read.table, c.in-Read.key) in
     let is : c.map.result ≡ finite.get m place = search rules in
     let asked = c.in-Read.ensures.stands.1 in
-    let given = c.give.ensures.known ∙ ap (λ q. finite.insert (known c.advance.new.self) q c.map.result) asked in
+    let given = c.give.ensures.known ∙ ap (λ q. finite.insert (rows_given c.advance.new.self) q c.map.result) asked in
     record {
       of = c.give.ensures.of c.args.schema.now c.args.txn.now c.in-Read.ensures.of;
-      has = subst (λ read. HasRows read m) (sym given) (have_given (known c.advance.new.self) place c.map.result m is (subst (λ read. HasRows read m) (sym c.advance.ensures.known) c.loop-table.invariant.has));
+      has = subst (λ read. HasRows read m) (sym given) (have_given (rows_given c.advance.new.self) place c.map.result m is (subst (λ read. HasRows read m) (sym c.advance.ensures.known) c.loop-table.invariant.has));
     }

@@ -1,7 +1,7 @@
 use Rattle.std.proofs.Common.{◌≡◌, ◌<◌, ◌≤◌, ◌==◌, ◌∙◌, ◌+◌, ◌*◌, Some, None, if◌then◌else◌, ap, sym, subst, length, All, true, arith}
 use Rattle.std.specs.FinMap as finite
 use Rattle.rl_tables.specs.Numbers.{sizes_of, place_of}
-use Rattle.rl_txn.specs.Eval.{is_new, known, awaited}
+use Rattle.rl_txn.specs.Eval.{is_new, rows_given, awaited}
 use Rattle.rl_base.specs.declared.refusal.Refusal.TheVariants as Refusal
 use Rattle.rl_worker.specs.Opening.{overlay_of}
 use Rattle.rl_value.specs.Cells.{row_of}
@@ -38,10 +38,10 @@ returns-in-None-clause-asking c =
     let self = c.args.self in
     let place : awaited self.eval ≡ place_of (sizes_of tables) self.next.rec = c.requires.reading.place in
     let fresh : is_new (overlay_of tables self.reads.0) (place_of (sizes_of tables) self.next.rec) ≡ true =
-    ap (λ m. is_new m (place_of (sizes_of tables) self.next.rec)) (sym c.requires.reading.known) ∙ ap (is_new (known self.eval)) (sym place) ∙ c.requires.reading.awaits.fresh in
+    ap (λ m. is_new m (place_of (sizes_of tables) self.next.rec)) (sym c.requires.reading.known) ∙ ap (is_new (rows_given self.eval)) (sym place) ∙ c.requires.reading.awaits.fresh in
     record {
       eval = c.counted.ensures.eval tables c.args.txn.now c.requires.reading.eval;
-      known = c.counted.ensures.given ∙ ap (λ p. finite.insert (known self.eval) p (row_of self.next.row)) place ∙ ap (λ m. finite.insert m (place_of (sizes_of tables) self.next.rec) (row_of self.next.row)) c.requires.reading.known
+      known = c.counted.ensures.given ∙ ap (λ p. finite.insert (rows_given self.eval) p (row_of self.next.row)) place ∙ ap (λ m. finite.insert m (place_of (sizes_of tables) self.next.rec) (row_of self.next.row)) c.requires.reading.known
           ∙ sym (overlay_with tables self.next self.reads.0 fresh) ∙ ap (overlay_of tables) (sym c.counted.ensures.reads);
       room = omega (arith, c.requires.reading.room, c.counted.ensures.less, c.counted.ensures.room);
       closed = c.counted.ensures.closed;

@@ -1,11 +1,11 @@
 use Rattle.std.proofs.Common.{◌≡◌, ◌∙◌, ap, sym, subst, length, sum, All, arith}
 use Rattle.rl_tables.specs.Numbers.{sizes_of, place_of, record_of}
 use Rattle.rl_tables.proofs.Sizes.{size_at}
-use Rattle.rl_txn.specs.Eval.{rows_of, wants, known, HasRows}
+use Rattle.rl_txn.specs.Eval.{rows_of, wants, rows_given, HasRows}
 use Rattle.rl_txn.proofs.Evals.{has_rows_of}
 use Rattle.rl_worker.specs.Opening.{overlay_of}
 use Rattle.rl_worker.specs.Workers.{ReadFits, PartFits, HasMore}
-use Rattle.rl_worker.proofs.Places.{place_of_record}
+use Rattle.rl_tables.proofs.Places.{place_of_record}
 use Rattle.rl_worker.proofs.Settings.{sizes_length}
 use Rattle.rl_worker.proofs.Endings.{ended_phase, writes_fit}
 use Rattle.rl_worker.proofs.worker.Worker.run_on.Goals as goal
@@ -33,7 +33,7 @@ pub returns-in-Ended-clause-phase : goal.returns-in-Ended-clause-phase
 returns-in-Ended-clause-phase c =
     let tables = c.args.schema.now in
     let reads = c.args.reading.reads.0 in
-    let know : known c.advance.new.self ≡ overlay_of tables reads = c.in-Ended.ensures.known ∙ c.requires.asking.known in
+    let know : rows_given c.advance.new.self ≡ overlay_of tables reads = c.in-Ended.ensures.known ∙ c.requires.asking.known in
     let is = c.commit.ensures.run tables c.args.txn.now (rows_of (overlay_of tables reads)) c.in-Ended.ensures.of (subst (λ m. HasRows m (rows_of (overlay_of tables reads))) (sym know) (has_rows_of (overlay_of tables reads))) in
     ended_phase tables c.args.txn.now c.args.self.now.index reads c.commit.result c.in-Ended.field-0
     (c.in-Ended.ensures.wants ∙ ap (wants tables c.args.txn.now) c.requires.asking.known) c.commit.ensures.part c.commit.ensures.index (ap (λ s. s.0) c.commit.ensures.reads) is
@@ -42,7 +42,7 @@ pub returns-in-Ended-clause-fits : goal.returns-in-Ended-clause-fits
 returns-in-Ended-clause-fits c =
     let tables = c.args.schema.now in
     let reads = c.args.reading.reads.0 in
-    let know : known c.advance.new.self ≡ overlay_of tables reads = c.in-Ended.ensures.known ∙ c.requires.asking.known in
+    let know : rows_given c.advance.new.self ≡ overlay_of tables reads = c.in-Ended.ensures.known ∙ c.requires.asking.known in
     let is = c.commit.ensures.run tables c.args.txn.now (rows_of (overlay_of tables reads)) c.in-Ended.ensures.of (subst (λ m. HasRows m (rows_of (overlay_of tables reads))) (sym know) (has_rows_of (overlay_of tables reads))) in
     let epoch = ap (λ s. s.epoch) c.commit.ensures.stamp in
     let seq = ap (λ s. s.seq) c.commit.ensures.stamp in (

@@ -5,7 +5,7 @@ use Rattle.rl_worker.specs.declared.worker.Stage.TheVariants as stage
 use Rattle.rl_worker.specs.Opening.{request, setting_of}
 use Rattle.rl_worker.specs.Workers.{is_resting, StageFits}
 use Rattle.rl_worker.proofs.Settings.{request_fits}
-use Rattle.rl_worker.proofs.Steps.{rests, is_rest, index_few, asks_it, stage_fits, makes_step, tells_step, rests_step}
+use Rattle.rl_worker.proofs.Steps.{is_rest, index_few, asks_it, stage_fits, makes_step, tells_step, rests_step}
 use Rattle.rl_worker.proofs.worker.Worker.step.Goals as goal
 
 pub returns-in_default-clause-step : goal.returns-in_default-clause-step

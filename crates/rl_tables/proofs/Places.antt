@@ -2,7 +2,7 @@
 use Rattle.std.proofs.Common.{◌≡◌, ℕ, zero, suc, ◌+◌, ◌-◌, ◌<◌, ◌≤◌, List, [], ◌∷◌, length, sum, take, slice_index, nat_lt, Bool, true, false, if◌then◌else◌, refl, sym, ap, ◌∙◌, arith}
 use Rattle.std.proofs.lemmas.Bool.Decides.{nat_tests}
 use Rattle.std.proofs.lemmas.List.Sums.{sum_by-cons}
-use Rattle.rl_tables.specs.Numbers.{record_of, place_from, place_of}
+use Rattle.rl_tables.specs.Numbers.{record_of, place_from, place_of, IsPlace}
 
 lt_true : (a b : ℕ) → a < b → nat_lt a b ≡ true
 lt_true a b h = grind (arith, nat_tests)
@@ -12,6 +12,9 @@ lt_false a b h = grind (arith, nat_tests)
 
 false_lt : (a b : ℕ) → nat_lt a b ≡ false → b ≤ a
 false_lt a b h = grind (arith, nat_tests)
+
+true_lt : (a b : ℕ) → nat_lt a b ≡ true → a < b
+true_lt a b h = grind (arith, nat_tests)
 
 -- the place of a key's record number
 placed : (t0 : ℕ) (sizes : List ℕ) (t k : ℕ) → t < length sizes → k < slice_index sizes t → place_from t0 sizes (record_of sizes t k) ≡ (t0 + t, k)
@@ -72,3 +75,35 @@ past_all t0 (x ∷ xs) r h =
 
 pub place_past_all : (sizes : List ℕ) (r : ℕ) → sum sizes ≤ r → (place_of sizes r).0 ≡ length sizes
 place_past_all sizes r h = past_all 0 sizes r h ∙ omega arith
+
+-- a key of one of these tables, of which the first has number t0
+record Within (t0 : ℕ) (sizes : List ℕ) (place : ℕ × ℕ) : Type 0 where
+  pub table : ℕ
+  pub is : place.0 ≡ t0 + table
+  pub there : table < length sizes
+  pub key : place.1 < slice_index sizes table
+
+within : (t0 : ℕ) (sizes : List ℕ) (r : ℕ) → r < sum sizes → Within t0 sizes (place_from t0 sizes r)
+within t0 [] r h = absurd (omega arith)
+within t0 (x ∷ xs) r h = go (nat_lt r x) refl (λ l. within (t0 + 1) xs (r - x) l)
+  where
+    go : (b : Bool) → nat_lt r x ≡ b → (r - x < sum xs → Within (t0 + 1) xs (place_from (t0 + 1) xs (r - x)))
+        → Within t0 (x ∷ xs) (if b then (t0, r) else place_from (t0 + 1) xs (r - x))
+    go true c f = record { table = 0; is = omega arith; there = omega arith; key = true_lt r x c }
+    go false c f =
+        let all : sum (x ∷ xs) ≡ x + sum xs = sum_by-cons (λ z. z) x xs in
+        let past : x ≤ r = false_lt r x c in
+        let rest = f (omega arith) in
+        record { table = suc rest.table; is = omega (arith, rest.is); there = omega (arith, rest.there); key = rest.key }
+
+-- a record is that of a key that is there
+pub place_there : (sizes : List ℕ) (r : ℕ) → r < sum sizes → IsPlace sizes r (place_of sizes r).0 (place_of sizes r).1
+place_there sizes r h =
+    let found = within 0 sizes r h in
+    let table : (place_of sizes r).0 ≡ found.table = omega (arith, found.is) in
+    let there : (place_of sizes r).0 < length sizes = omega (arith, found.there, table) in
+    record {
+      table = there;
+      key = rw table found.key;
+      number = record_of_place sizes r (place_of sizes r).0 (place_of sizes r).1 there refl;
+    }
