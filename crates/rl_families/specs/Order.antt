@@ -1,5 +1,5 @@
 -- Items in the order of their stamps.
-use Rattle.std.specs.Prelude.{List, [], ◌∷◌, if◌then◌else◌}
+use Rattle.std.specs.Prelude.{◌≡◌, List, [], ◌∷◌, if◌then◌else◌, false, AllPairs}
 use Rattle.rl_base.specs.Order.{is_below}
 use Rattle.rl_txn.specs.declared.item.Item.{Item}
 
@@ -13,3 +13,7 @@ insert_by_stamp x (y ∷ ys) =
 abbrev pub in_order : List Item → List Item
 in_order [] = []
 in_order (x ∷ xs) = insert_by_stamp x (in_order xs)
+
+-- no item has a stamp below that of one before it
+abbrev pub IsInOrder : List Item → Type 0
+IsInOrder items = AllPairs (λ x y. is_below y.stamp x.stamp ≡ false) items

@@ -1,6 +1,8 @@
 //! A replica of two streams.
 
-ghost use Rattle.std.specs.Prelude.{◌≡◌, ◌≤◌, length, IfOk};
+ghost use Rattle.std.specs.Prelude.{◌≡◌, ◌≢◌, ℕ, ◌≤◌, List, length, take, IfOk};
+ghost use Rattle.rl_txn.specs.declared.batch.Batch.{Batch};
+ghost use Rattle.rl_replay.specs.Replay.{BeginsWithPlayed};
 
 use crate::items::{item, only};
 use rl_base::bound::Bound;
@@ -24,9 +26,7 @@ fn stamp(seq: u64) -> Stamp {
 }
 
 /// A log of one batch, whose items write these values to one key.
-fn log_of(alloc: Global, values: &[(u64, u64)]) -> Result<Batches, Memory>
-    ensures { IfOk result (λ log. length log ≡ 1) }
-{
+fn log_of(alloc: Global, values: &[(u64, u64)]) -> Result<Batches, Memory> {
     let mut items = Items::new(alloc);
     for &(seq, value) in values {
         let mut writes = Seq::new(alloc);
@@ -42,7 +42,7 @@ fn log_of(alloc: Global, values: &[(u64, u64)]) -> Result<Batches, Memory>
     Ok(log)
 }
 
-/// Plays the next entry of one of two streams, whose log has one batch.
+/// Plays the next entry of one of two streams.
 fn play_stream(
     alloc: Global,
     replica: &mut Replica,
@@ -52,8 +52,11 @@ fn play_stream(
     requires first_stream { 1 ≤ stream }
     requires last_stream { stream ≤ 2 }
     requires two { length replica.old.played ≡ 2 }
-    requires one { length log.now ≡ 1 }
-    ensures { IfOk result (λ _. length replica.new.played ≡ 2) }
+    requires begins { BeginsWithPlayed replica.old stream (take 1 log.now) }
+    ensures two { length replica.new.played ≡ 2 }
+    ensures begins { BeginsWithPlayed replica.new stream (take 1 log.now) }
+    ensures others { (t : ℕ) (other : List Batch) → t ≢ stream → 1 ≤ t
+        → BeginsWithPlayed replica.old t other → BeginsWithPlayed replica.new t other }
 {
     replica.play(alloc, stream, log, 1, Bound::Rising { seq: 3 }, 3)
 }
@@ -67,9 +70,11 @@ fn play(
     second: &Batches,
 ) -> Result<Played, Memory>
     requires two { length replica.old.played ≡ 2 }
-    requires first_log { length first.now ≡ 1 }
-    requires second_log { length second.now ≡ 1 }
-    ensures { IfOk result (λ _. length replica.new.played ≡ 2) }
+    requires first { BeginsWithPlayed replica.old 1 (take 1 first.now) }
+    requires second { BeginsWithPlayed replica.old 2 (take 1 second.now) }
+    ensures two { length replica.new.played ≡ 2 }
+    ensures first { BeginsWithPlayed replica.new 1 (take 1 first.now) }
+    ensures second { BeginsWithPlayed replica.new 2 (take 1 second.now) }
 {
     if is_second {
         play_stream(alloc, replica, 2, second)
@@ -86,9 +91,13 @@ fn value(replica: &Replica) -> u64 {
 }
 
 fn two_streams(alloc: Global) -> Result<Replica, Memory>
-    ensures { IfOk result (λ replica. length replica.played ≡ 2) }
+    ensures two { IfOk result (λ replica. length replica.played ≡ 2) }
+    ensures begins { (s : ℕ) (log : List Batch) → 1 ≤ s → s ≤ 2 → IfOk result (λ r. BeginsWithPlayed r s log) }
 {
-    Replica::new(alloc, &Schema::new(alloc), &Map::new(alloc), 2)
+    let schema = Schema::new(alloc);
+    let opening = Map::new(alloc);
+    let replica = Replica::new(alloc, &schema, &opening, 2)?;
+    Ok(replica)
 }
 
 #[test]

@@ -5,4 +5,6 @@ pub mod Newer
 pub mod Replays
 pub mod Answering
 pub mod Numbered
+pub mod Standing
+pub mod Applied
 pub mod Following

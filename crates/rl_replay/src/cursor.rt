@@ -1,24 +1,37 @@
 //! Where an entry stands in a log.
 
-ghost use Rattle.std.specs.Prelude.{◌≡◌, ℕ, ◌+◌, ◌*◌, ◌^◌, ◌<◌, ◌≤◌, length, slice_get, None, MatchOption};
-ghost use Rattle.rl_replay.specs.Entries.{entries_of, entry_at};
+ghost use Rattle.std.specs.Prelude.{◌≡◌, ℕ, ◌+◌, ◌^◌, ◌<◌, ◌≤◌, length, take, None, MatchOption, IfSome};
+ghost use Rattle.rl_replay.specs.Entries.{entries, entries_of, entry_at};
+ghost use Rattle.rl_replay.specs.Cursors.{IsEntryAt, FitsCursor};
 
 use rl_txn::batch::Batch;
 
-/// The batch with the entry of a number, and the index of the entry there; none past the last.
-pub fn find(log: &[Batch], n: u128) -> Option<(&Batch, usize)>
-    ensures entry { MatchOption result (entry_at log.now n ≡ None)
-        (λ at. slice_get (entries_of at.0.now) at.1 ≡ entry_at log.now n) }
-    ensures index { MatchOption result (entry_at log.now n ≡ None) (λ at. at.1 < length (entries_of at.0.now)) }
-    ensures small { MatchOption result (entry_at log.now n ≡ None) (λ _. n + 1 < 2 ^ 128) }
+/// A place in a log: behind so many batches, and behind so many entries that follow.
+#[derive(Clone, Copy, Debug, PartialEq, Eq)]
+pub struct Cursor {
+    pub batch: usize,
+    pub place: usize,
+}
+
+/// The batch of the entry at a cursor, and the cursor with the entry's index in that batch; none
+/// past the last entry.
+pub fn find(log: &[Batch], at: Cursor) -> Option<(&Batch, Cursor)>
+    requires { at.batch ≤ length log.now }
+    ensures found { let n = length (entries (take at.batch log.now)) + at.place in
+        MatchOption result (entry_at log.now n ≡ None) (λ found. IsEntryAt log.now n found.0.now found.1) }
+    ensures onward { (n : ℕ) → FitsCursor n at → IfSome result (λ found. FitsCursor n found.1) }
+    ensures room { IfSome result (λ found. found.1.place + 1 < 2 ^ 64) }
 {
-    let mut left = n;
-    for batch in log {
-        let len = entries_in(batch) as u128;
-        if left < len {
-            return Some((batch, left as usize));
+    let mut cursor = at;
+    for batch in &log[at.batch..] {
+        let len = entries_in(batch);
+        if cursor.place < len {
+            return Some((batch, cursor));
         }
-        left -= len;
+        cursor = Cursor {
+            batch: cursor.batch + 1,
+            place: cursor.place - len,
+        };
     }
     None
 }

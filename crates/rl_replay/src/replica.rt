@@ -1,23 +1,28 @@
 //! A replica of the store.
 
-ghost use Rattle.std.specs.Prelude.{◌≡◌, ℕ, ◌+◌, ◌-◌, ◌^◌, ◌<◌, ◌≤◌, [], false, true, length, take, replicate, slice_get, slice_index, slice_set, All, ◌∷◌, ◌++◌, Some, IsSomeAnd, IfOk, OnOk, OnErr, IsErr, IsTrue, ◌↔◌};
+ghost use Rattle.std.specs.Prelude.{◌≡◌, ◌≢◌, ℕ, ◌+◌, ◌-◌, ◌^◌, ◌<◌, ◌≤◌, List, [], false, true, length, take, replicate, slice_get, slice_index, slice_set, All, ◌∷◌, ◌++◌, Some, None, IsSomeAnd, IfSome, MatchOption, IfOk, OnOk, OnErr, IsErr, IsTrue, ◌↔◌};
 ghost use Rattle.std.specs.Option.{option_map};
 ghost use Rattle.rl_value.specs.Rows.{Rows};
 ghost use Rattle.rl_txn.specs.Serial.{after_writes};
-ghost use Rattle.rl_replay.specs.Replay.{newest_writes, HasStamp, next_entry, item_answer, play_answer, after_answer, IsReplay, HasFailed, HaveSameStamps, IsSameSet, StampsIdentify};
+ghost use Rattle.rl_txn.specs.declared.batch.Batch.{Batch};
+ghost use Rattle.rl_families.specs.Order.{IsInOrder};
+ghost use Rattle.rl_replay.specs.Replay.{newest_writes, HasStamp, next_entry, BeginsWithPlayed, IsBehindNext, gone_on, item_answer, play_answer, after_answer, IsReplay, HasFailed, HaveSameStamps, IsSameSet, StampsIdentify};
 ghost use Rattle.rl_replay.specs.Entries.{entries_of, item_entry, mark_entry};
+ghost use Rattle.rl_replay.specs.Cursors.{start, next_place, FitsCursor, IsEntryAt};
+ghost use Rattle.rl_replay.specs.declared.cursor.Cursor.{Cursor};
 
-use crate::cursor::find;
+use crate::cursor::{Cursor, find};
 use crate::newest::{Newest, apply_newest};
 use crate::played::Played;
 use rl_base::bound::Bound;
 use rl_base::memory::Memory;
-use rl_base::stamp::Stamp;
+use rl_base::stamp::{Stamp, is_below};
 use rl_txn::batch::{Batch, Batches};
 use rl_txn::item::{Item, Items};
 use rl_value::map::Map;
 use rl_value::schema::Schema;
 use std::alloc::Global;
+use std::collections::BTreeSet;
 use std::marker::Model;
 
 /// What a replica has of the streams. Contracts see what it has applied and played, and its rows.
@@ -26,14 +31,15 @@ pub struct Replica {
     map: Map,
     newest: Newest,
     applied: Vec<Item>,
+    stamps: BTreeSet<(u32, u64)>,
     played: Vec<u128>,
+    cursors: Vec<Cursor>,
     failed: bool,
 }
 
 impl Model for Replica {
-    ghost use Rattle.std.specs.Prelude.{◌≡◌, false};
     ghost use Rattle.rl_replay.specs.Replay.{Replaying};
-    ghost use Rattle.rl_replay.specs.Newest.{AreNewest};
+    ghost use Rattle.rl_replay.specs.Kept.{IsKept};
     ghost use Rattle.std.specs.Coded.{codes};
     ghost use Rattle.rl_replay.specs.Codes.{rows_code};
 
@@ -41,9 +47,9 @@ impl Model for Replica {
 
     ghost coded = { Prim.hlevel (codes, rows_code) };
 
-    ghost view = { λ r. record { applied = r.applied.items; played = r.played.items; rows = r.map; failed = r.failed } };
+    ghost view = { λ r. record { applied = r.applied.items; played = r.played.items; cursors = r.cursors.items; rows = r.map; failed = r.failed } };
 
-    ghost invariant = { λ r. r.failed ≡ false → AreNewest r.applied.items r.newest };
+    ghost invariant = { IsKept };
 }
 
 impl Replica {
@@ -58,19 +64,24 @@ impl Replica {
         ensures { IfOk result (λ replica. replica ≡ record {
           applied = [];
           played = replicate streams 0;
+          cursors = replicate streams start;
           rows = opening.now;
           failed = false;
         }) }
     {
         let mut played = Vec::with_capacity(alloc, streams as usize)?;
+        let mut cursors = Vec::with_capacity(alloc, streams as usize)?;
         for _stream in 0..streams {
             played.push(0)?;
+            cursors.push(Cursor { batch: 0, place: 0 })?;
         }
         Ok(Replica {
             map: opening.copy()?,
             newest: Newest::new(alloc),
             applied: Vec::new(alloc),
+            stamps: BTreeSet::new(alloc),
             played,
+            cursors,
             failed: false,
         })
     }
@@ -83,20 +94,37 @@ impl Replica {
     }
 
     /// The epoch of the next entry of a stream, in the first `known` batches of its log, or in all
-    /// where it has fewer; none where these are played out.
+    /// where it has fewer; none where these are played out. They begin with what was played.
     pub fn next_epoch_of(&self, stream: u32, log: &Batches, known: u32) -> Option<u32>
         requires first_stream { 1 ≤ stream }
         requires last_stream { stream ≤ length self.now.played }
+        requires begins { BeginsWithPlayed self.now stream (take known log.now) }
         ensures { result
             ≡ option_map (λ e. e.stamp.epoch) (next_entry self.now stream (take known log.now)) }
     {
         let known = first_batches(log, known);
-        let (batch, index) = find(known, self.played[stream as usize - 1])?;
-        Some(epoch_at(batch, index))
+        let (batch, at) = self.next(stream, known)?;
+        Some(epoch_at(batch, at.place))
+    }
+
+    /// The batch of the next entry of a stream, and where the entry stands; none where the known
+    /// batches are played out.
+    fn next<'a>(&self, stream: u32, known: &'a [Batch]) -> Option<(&'a Batch, Cursor)>
+        requires first_stream { 1 ≤ stream }
+        requires last_stream { stream ≤ length self.now.played }
+        requires begins { BeginsWithPlayed self.now stream known.now }
+        ensures found { MatchOption result (next_entry self.now stream known.now ≡ None)
+            (λ found. IsEntryAt known.now (slice_index self.now.played (stream - 1)) found.0.now found.1) }
+        ensures fits { IfSome result (λ found. FitsCursor (slice_index self.now.played (stream - 1)) found.1) }
+        ensures room { IfSome result (λ found. found.1.place + 1 < 2 ^ 64) }
+    {
+        let at = self.cursors[stream as usize - 1];
+        find(known, at)
     }
 
     /// Plays the next entry of a stream, in the first `known` batches of its log, or in all where it
-    /// has fewer, with the bound of the entry's epoch and the seq of the watermark.
+    /// has fewer, with the bound of the entry's epoch and the seq of the watermark. The batches
+    /// begin with what was played, and still do after it.
     ///
     /// `Memory` leaves the applied items and the cursors as they were. A prefix of the writes of an
     /// item that was to be applied may stand in the rows then; every later `play` answers `Memory`
@@ -112,10 +140,16 @@ impl Replica {
     ) -> Result<Played, Memory>
         requires first_stream { 1 ≤ stream }
         requires last_stream { stream ≤ length self.old.played }
+        requires begins { BeginsWithPlayed self.old stream (take known log.now) }
         ensures answer { let next = next_entry self.old stream (take known log.now) in
             IfOk result (λ p. p ≡ play_answer next bound watermark) }
         ensures state { let next = next_entry self.old stream (take known log.now) in
-            IfOk result (λ p. self.new ≡ after_answer self.old stream next p) }
+            IfOk result (λ p. (c : Cursor) × IsBehindNext self.old stream (take known log.now) c
+            × (self.new ≡ after_answer self.old stream next p c)) }
+        ensures streams { length self.new.played ≡ length self.old.played }
+        ensures begins { BeginsWithPlayed self.new stream (take known log.now) }
+        ensures others { (t : ℕ) (other : List Batch) → t ≢ stream → 1 ≤ t
+            → BeginsWithPlayed self.old t other → BeginsWithPlayed self.new t other }
         ensures replay { (opening : Rows) → IsReplay opening self.old → OnOk result (IsReplay opening self.new) }
         ensures err { let next = next_entry self.old stream (take known log.now) in
             OnErr result (HasFailed (play_answer next bound watermark) next self.old self.new) }
@@ -126,8 +160,8 @@ impl Replica {
             return Err(Memory);
         }
         let known = first_batches(log, known);
-        match find(known, self.played[stream as usize - 1]) {
-            Some((batch, index)) => self.play_at(alloc, stream, batch, index, bound, watermark),
+        match self.next(stream, known) {
+            Some((batch, at)) => self.play_at(alloc, stream, batch, at, bound, watermark),
             None => Ok(Played::Empty),
         }
     }
@@ -138,27 +172,28 @@ impl Replica {
         alloc: Global,
         stream: u32,
         batch: &Batch,
-        index: usize,
+        at: Cursor,
         bound: Bound,
         watermark: u64,
     ) -> Result<Played, Memory>
         requires first_stream { 1 ≤ stream }
         requires last_stream { stream ≤ length self.old.played }
-        requires room { slice_index self.old.played (stream - 1) + 1 < 2 ^ 128 }
+        requires fits { FitsCursor (slice_index self.old.played (stream - 1)) at }
+        requires room { at.place + 1 < 2 ^ 64 }
         requires working { self.old.failed ≡ false }
-        requires index { index < length (entries_of batch.now) }
-        ensures answer { IfOk result (λ p. p ≡ play_answer (slice_get (entries_of batch.now) index) bound watermark) }
-        ensures state { let next = slice_get (entries_of batch.now) index in
-            IfOk result (λ p. self.new ≡ after_answer self.old stream next p) }
-        ensures err { let next = slice_get (entries_of batch.now) index in
+        requires index { at.place < length (entries_of batch.now) }
+        ensures answer { IfOk result (λ p. p ≡ play_answer (slice_get (entries_of batch.now) at.place) bound watermark) }
+        ensures state { let next = slice_get (entries_of batch.now) at.place in
+            IfOk result (λ p. self.new ≡ after_answer self.old stream next p (next_place at)) }
+        ensures err { let next = slice_get (entries_of batch.now) at.place in
             OnErr result (HasFailed (play_answer next bound watermark) next self.old self.new) }
     {
         match batch {
             Batch::Items(items) => {
-                self.play_item(alloc, stream, items.get(index), bound, watermark)
+                self.play_item(alloc, stream, items.get(at.place), at, bound, watermark)
             }
-            Batch::Idle(stamp) => Ok(self.skip(stream, *stamp)),
-            Batch::Opened(stamp) => Ok(self.skip(stream, *stamp)),
+            Batch::Idle(stamp) => Ok(self.skip(stream, at, *stamp)),
+            Batch::Opened(stamp) => Ok(self.skip(stream, at, *stamp)),
         }
     }
 
@@ -167,41 +202,51 @@ impl Replica {
         alloc: Global,
         stream: u32,
         item: &Item,
+        at: Cursor,
         bound: Bound,
         watermark: u64,
     ) -> Result<Played, Memory>
         requires first_stream { 1 ≤ stream }
         requires last_stream { stream ≤ length self.old.played }
-        requires room { slice_index self.old.played (stream - 1) + 1 < 2 ^ 128 }
+        requires fits { FitsCursor (slice_index self.old.played (stream - 1)) at }
+        requires room { at.place + 1 < 2 ^ 64 }
         requires working { self.old.failed ≡ false }
         ensures answer { IfOk result (λ p. p ≡ item_answer item.now.stamp bound watermark) }
-        ensures state { IfOk result (λ p. self.new ≡ after_answer self.old stream (Some (item_entry item.now)) p) }
+        ensures state { let next = Some (item_entry item.now) in
+            IfOk result (λ p. self.new ≡ after_answer self.old stream next p (next_place at)) }
         ensures err { let next = Some (item_entry item.now) in
             OnErr result (HasFailed (item_answer item.now.stamp bound watermark) next self.old self.new) }
     {
         match answer_item(item.stamp, bound, watermark) {
-            Played::Applied { stamp } => self.apply(alloc, stream, item),
-            Played::Passed { stamp } => Ok(self.skip(stream, stamp)),
+            Played::Applied { stamp } => self.apply(alloc, stream, item, at),
+            Played::Passed { stamp } => Ok(self.skip(stream, at, stamp)),
             Played::Above { next, watermark } => Ok(Played::Above { next, watermark }),
             Played::Empty => Ok(Played::Empty),
         }
     }
 
     /// Applies an item.
-    fn apply(&mut self, alloc: Global, stream: u32, item: &Item) -> Result<Played, Memory>
+    fn apply(
+        &mut self,
+        alloc: Global,
+        stream: u32,
+        item: &Item,
+        at: Cursor,
+    ) -> Result<Played, Memory>
         requires first_stream { 1 ≤ stream }
         requires last_stream { stream ≤ length self.old.played }
-        requires room { slice_index self.old.played (stream - 1) + 1 < 2 ^ 128 }
+        requires fits { FitsCursor (slice_index self.old.played (stream - 1)) at }
+        requires room { at.place + 1 < 2 ^ 64 }
         requires working { self.old.failed ≡ false }
         ensures answer { IfOk result (λ p. p ≡ Played.Applied item.now.stamp) }
         ensures state { let next = Some (item_entry item.now) in
             OnOk result (self.new
-            ≡ after_answer self.old stream next (Played.Applied item.now.stamp)) }
+            ≡ after_answer self.old stream next (Played.Applied item.now.stamp) (next_place at)) }
         ensures err { let next = Some (item_entry item.now) in
             OnErr result (HasFailed (Played.Applied item.now.stamp) next self.old self.new) }
     {
         self.keep(alloc, item)?;
-        self.advance(stream);
+        self.advance(stream, at);
         Ok(Played::Applied { stamp: item.stamp })
     }
 
@@ -216,50 +261,73 @@ impl Replica {
             OnErr result (HasFailed (Played.Applied item.now.stamp) next self.old self.new) }
     {
         self.failed = true;
-        let kept = self.applied.len();
-        self.applied.push(item.copy(alloc)?)?;
-        if let Err(e) = apply_newest(&mut self.map, &mut self.newest, item) {
-            self.applied.truncate(kept);
-            return Err(e);
-        }
+        let kept = item.copy(alloc)?;
+        self.applied.reserve(1)?;
+        apply_newest(&mut self.map, &mut self.newest, item)?;
+        self.stamps.insert((item.stamp.epoch, item.stamp.seq))?;
+        self.applied.push_reserved(kept);
         self.failed = false;
         Ok(())
     }
 
     /// Skips an entry.
-    fn skip(&mut self, stream: u32, stamp: Stamp) -> Played
+    fn skip(&mut self, stream: u32, at: Cursor, stamp: Stamp) -> Played
         requires first_stream { 1 ≤ stream }
         requires last_stream { stream ≤ length self.old.played }
-        requires room { slice_index self.old.played (stream - 1) + 1 < 2 ^ 128 }
+        requires fits { FitsCursor (slice_index self.old.played (stream - 1)) at }
+        requires room { at.place + 1 < 2 ^ 64 }
         ensures answer { result ≡ Played.Passed stamp }
-        ensures state { self.new ≡ record self.old {
-          played = slice_set self.old.played (stream - 1)
-              (slice_index self.old.played (stream - 1) + 1);
-        } }
+        ensures state { self.new ≡ gone_on self.old stream (next_place at) }
     {
-        self.advance(stream);
+        self.advance(stream, at);
         Played::Passed { stamp }
     }
 
-    fn advance(&mut self, stream: u32)
+    /// Goes on behind the entry at a cursor.
+    fn advance(&mut self, stream: u32, at: Cursor)
         requires first_stream { 1 ≤ stream }
         requires last_stream { stream ≤ length self.old.played }
-        requires room { slice_index self.old.played (stream - 1) + 1 < 2 ^ 128 }
-        ensures { self.new ≡ record self.old {
-          played = slice_set self.old.played (stream - 1)
-              (slice_index self.old.played (stream - 1) + 1);
-        } }
+        requires fits { FitsCursor (slice_index self.old.played (stream - 1)) at }
+        requires room { at.place + 1 < 2 ^ 64 }
+        ensures { self.new ≡ gone_on self.old stream (next_place at) }
     {
-        self.played[stream as usize - 1] += 1;
+        let stream = stream as usize - 1;
+        self.played[stream] += 1;
+        self.cursors[stream] = Cursor {
+            batch: at.batch,
+            place: at.place + 1,
+        };
     }
 
-    /// Whether every item of a history was applied, and no other, told by their stamps.
+    /// Whether every item of a history was applied, and no other, told by their stamps. A history
+    /// is in the order of its stamps.
     pub fn at_watermark(&self, history: &Items) -> bool
+        requires { IsInOrder history.now }
         ensures stamps { IsTrue result ↔ HaveSameStamps self.now.applied history.now }
         ensures items { StampsIdentify self.now.applied history.now
             → (IsTrue result ↔ IsSameSet history.now self.now.applied) }
     {
-        have_same_stamps(&self.applied, history.as_slice())
+        self.has_same_stamps(history.as_slice())
+    }
+
+    /// Whether each of some items in order was applied, and no other, told by their stamps.
+    fn has_same_stamps(&self, items: &[Item]) -> bool
+        requires { IsInOrder items.now }
+        ensures { IsTrue result ↔ HaveSameStamps self.now.applied items.now }
+    {
+        self.has_applied(items) && are_among(&self.applied, items)
+    }
+
+    /// Whether each of some items has the stamp of one that was applied.
+    fn has_applied(&self, items: &[Item]) -> bool
+        ensures { IsTrue result ↔ All (λ x. HasStamp self.now.applied x.stamp) items.now }
+    {
+        for item in items {
+            if !self.stamps.contains(&(item.stamp.epoch, item.stamp.seq)) {
+                return false;
+            }
+        }
+        true
     }
 }
 
@@ -278,30 +346,29 @@ fn answer_item(stamp: Stamp, bound: Bound, watermark: u64) -> Played
     }
 }
 
-/// Whether each item of one list has the stamp of an item of the other, both ways.
-fn have_same_stamps(items: &[Item], others: &[Item]) -> bool
-    ensures { IsTrue result ↔ HaveSameStamps items.now others.now }
+/// Whether each of some items has the stamp of one of those in order.
+fn are_among(items: &[Item], in_order: &[Item]) -> bool
+    requires { IsInOrder in_order.now }
+    ensures { IsTrue result ↔ All (λ x. HasStamp in_order.now x.stamp) items.now }
 {
-    has_stamps(items, others) && has_stamps(others, items)
-}
-
-/// Whether each of some other items has the stamp of an item.
-fn has_stamps(items: &[Item], others: &[Item]) -> bool
-    ensures { IsTrue result ↔ All (λ x. HasStamp items.now x.stamp) others.now }
-{
-    for item in others {
-        if !has_stamp(items, item.stamp) {
+    for item in items {
+        if !has_stamp(in_order, item.stamp) {
             return false;
         }
     }
     true
 }
 
-/// Whether some item has a stamp.
+/// Whether one of some items in order has a stamp.
 fn has_stamp(items: &[Item], stamp: Stamp) -> bool
+    requires { IsInOrder items.now }
     ensures { IsTrue result ↔ HasStamp items.now stamp }
 {
-    items.iter().any(|item| item.stamp.epoch == stamp.epoch && item.stamp.seq == stamp.seq)
+    let at = items.partition_point(|item| is_below(item.stamp, stamp));
+    match items.get(at) {
+        Some(item) => item.stamp.epoch == stamp.epoch && item.stamp.seq == stamp.seq,
+        None => false,
+    }
 }
 
 /// The first batches of a log: all, where it has no more.

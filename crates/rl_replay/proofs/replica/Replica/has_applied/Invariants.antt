@@ -1,7 +1,7 @@
 use Rattle.std.proofs.Common.{All, take}
 use Rattle.rl_txn.specs.declared.item.Item.{Item}
 use Rattle.rl_replay.specs.Replay.{HasStamp}
-use Rattle.rl_replay.proofs.replica.has_stamps.Given as goal
+use Rattle.rl_replay.proofs.replica.Replica.has_applied.Given as goal
 
 abbrev pub invariant-loop-item : goal.invariant-loop-item
-invariant-loop-item l = All (λ (x : Item). HasStamp l.items x.stamp) (take l.item-index l.others)
+invariant-loop-item l = All (λ (x : Item). HasStamp l.self-inside.applied.items x.stamp) (take l.item-index l.items)
