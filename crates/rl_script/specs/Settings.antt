@@ -5,6 +5,7 @@ use Rattle.rl_base.specs.Results.{◌>>=◌}
 use Rattle.rl_base.specs.declared.limit.TheConstants.{NODES, WORKERS}
 use Rattle.rl_events.specs.declared.kind.Kind.{Kind}
 use Rattle.rl_events.specs.declared.kind.Kind.TheVariants.{Duplicate}
+use Rattle.rl_events.specs.Forms.{Reading}
 use Rattle.rl_events.specs.Words.{number, within}
 use Rattle.rl_script.specs.declared.script.TheConstants.{MOST_STOPS}
 use Rattle.rl_script.specs.declared.settings.Settings.{Settings}
@@ -35,9 +36,9 @@ abbrev pub once : {A : Type 0} → Option A → A → Result (Option A) Kind
 once None x = Ok (Some x)
 once (Some y) x = Err Duplicate
 
--- the value of a setting in its range, which was not given before
-abbrev pub given : (low high : ℕ) → Option ℕ → List ℕ → Result (Option ℕ) Kind
-given low high before word = within low high word >>= λ n. once before n
+-- the value of a setting, which was not given before
+abbrev pub given : Reading ℕ → Option ℕ → List ℕ → Result (Option ℕ) Kind
+given read before word = read word >>= λ n. once before n
 
 -- one more stop
 abbrev pub one_more : List ℕ → ℕ → Result (List ℕ) Kind
@@ -45,15 +46,9 @@ one_more stops d = if length stops == MOST_STOPS then Err Duplicate else Ok (sto
 
 -- the settings with one more of them
 unfoldable pub with_setting : Settings → SettingWord → List ℕ → Result Settings Kind
-with_setting s word.Nodes w = given 1 NODES s.nodes w >>= λ nodes. Ok (record s { nodes = nodes })
-with_setting s word.Workers w = given 1 WORKERS s.workers w >>= λ workers. Ok (record s { workers = workers })
-with_setting s word.Batch w = given 1 64 s.batch w >>= λ batch. Ok (record s { batch = batch })
-with_setting s word.Loss w = given 0 999 s.loss w >>= λ loss. Ok (record s { loss = loss })
-with_setting s word.Seed w = do
-  n ← number w
-  seed ← once s.seed n
-  Ok (record s { seed = seed })
-with_setting s word.Stop w = do
-  d ← within 1 1000000 w
-  stops ← one_more s.stops d
-  Ok (record s { stops = stops })
+with_setting s word.Nodes w = given (within 1 NODES) s.nodes w >>= λ nodes. Ok (record s { nodes = nodes })
+with_setting s word.Workers w = given (within 1 WORKERS) s.workers w >>= λ workers. Ok (record s { workers = workers })
+with_setting s word.Batch w = given (within 1 64) s.batch w >>= λ batch. Ok (record s { batch = batch })
+with_setting s word.Loss w = given (within 0 999) s.loss w >>= λ loss. Ok (record s { loss = loss })
+with_setting s word.Seed w = given number s.seed w >>= λ seed. Ok (record s { seed = seed })
+with_setting s word.Stop w = (within 1 1000000 w >>= one_more s.stops) >>= λ stops. Ok (record s { stops = stops })

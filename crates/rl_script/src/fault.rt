@@ -115,6 +115,17 @@ impl From<Memory> for ParseError {
     }
 }
 
+impl From<AllocError> for ParseError {
+    ghost use Rattle.std.specs.Prelude.{◌≡◌};
+    ghost use Rattle.rl_script.specs.declared.fault.ParseError.TheVariants.{Memory};
+
+    ghost from_gives = { λ _ e. e ≡ Memory };
+
+    fn from(_e: AllocError) -> ParseError {
+        ParseError::Memory
+    }
+}
+
 impl LineError {
     /// A line passes a limit.
     pub fn limit(name: LimitName, limit: u32) -> LineError
