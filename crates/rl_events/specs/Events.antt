@@ -1,8 +1,8 @@
 -- The event that a line says.
 use Rattle.std.specs.Prelude.{ℕ, ◌-◌, ◌^◌, List, [], ◌∷◌, Option, Some, None, ok_or, Result, Err, if◌then◌else◌, codes}
-use Rattle.std.specs.Str.{bytes_eq}
 use Rattle.rl_base.specs.Results.{◌>>=◌}
 use Rattle.rl_base.specs.declared.limit.TheConstants.{EVENTS}
+use Rattle.rl_text.specs.Meanings.{meaning}
 use Rattle.rl_text.specs.Text.{words_of, is_printable}
 use Rattle.rl_events.specs.declared.kind.Kind.{Kind}
 use Rattle.rl_events.specs.declared.kind.Kind.TheVariants.{Byte, Word}
@@ -15,15 +15,11 @@ use Rattle.rl_events.specs.Words.{number, within}
 
 -- which event a first word begins
 abbrev pub event_word : List ℕ → Option EventWord
-event_word w =
-    if bytes_eq w (codes "step") then Some word.Step else (if bytes_eq w (codes "flush") then Some word.Flush
-    else (if bytes_eq w (codes "idle") then Some word.Idle else (if bytes_eq w (codes "dlv") then Some word.Dlv
-    else (if bytes_eq w (codes "drop") then Some word.Discard else (if bytes_eq w (codes "all") then Some word.All
-    else (if bytes_eq w (codes "elect") then Some word.Elect else (if bytes_eq w (codes "tick") then Some word.Tick
-    else (if bytes_eq w (codes "crash") then Some word.Crash else (if bytes_eq w (codes "back") then Some word.Back
-    else (if bytes_eq w (codes "lose") then Some word.Lose else (if bytes_eq w (codes "play") then Some word.Play
-    else (if bytes_eq w (codes "playall") then Some word.PlayAll else (if bytes_eq w (codes "show") then Some word.Show
-    else (if bytes_eq w (codes "random") then Some word.Random else None))))))))))))))
+event_word = meaning {A = EventWord}
+    ((codes "step", word.Step) ∷ (codes "flush", word.Flush) ∷ (codes "idle", word.Idle) ∷ (codes "dlv", word.Dlv)
+    ∷ (codes "drop", word.Discard) ∷ (codes "all", word.All) ∷ (codes "elect", word.Elect) ∷ (codes "tick", word.Tick)
+    ∷ (codes "crash", word.Crash) ∷ (codes "back", word.Back) ∷ (codes "lose", word.Lose) ∷ (codes "play", word.Play)
+    ∷ (codes "playall", word.PlayAll) ∷ (codes "show", word.Show) ∷ (codes "random", word.Random) ∷ [])
 
 -- the line of an event, without its first word: so many words, and each in its range
 abbrev pub read_event : (nodes workers : ℕ) → EventWord → List (List ℕ) → Result Event Kind

@@ -132,13 +132,10 @@ read_words draft (word ∷ words) =
 unfoldable pub read_line : Draft → List ℕ → Result Draft Problem
 read_line draft line = if is_printable line then read_words draft (words_of line) else Err (Fault Byte)
 
--- no transaction is open where the lines end
-abbrev pub closed : ℕ → Draft → Result Draft (ℕ × Problem)
-closed number draft = if is_some draft.current then Err (number, Fault Unended) else Ok draft
-
--- the lines from the one of a number on: what they say, or the first that something is wrong with
+-- the lines from the one of a number on: what they say, or the first that something is wrong with; no transaction is
+-- open where they end
 unfoldable pub read_lines : ℕ → Draft → List (List ℕ) → Result Draft (ℕ × Problem)
-read_lines number draft [] = closed number draft
+read_lines number draft [] = if is_some draft.current then Err (number, Fault Unended) else Ok draft
 read_lines number draft (line ∷ lines) = elim (read_line draft line) [
   | Ok next ↦ read_lines (number + 1) next lines
   | Err problem ↦ Err (number, problem)

@@ -1,6 +1,6 @@
 -- What the settings of a script are.
 use Rattle.std.specs.Prelude.{ℕ, List, [], ◌∷◌, ◌++◌, length, ◌==◌, Option, Some, None, unwrap_or, Result, Ok, Err, if◌then◌else◌, codes}
-use Rattle.std.specs.Str.{bytes_eq}
+use Rattle.rl_text.specs.Meanings.{meaning}
 use Rattle.rl_base.specs.Results.{◌>>=◌}
 use Rattle.rl_base.specs.declared.limit.TheConstants.{NODES, WORKERS}
 use Rattle.rl_events.specs.declared.kind.Kind.{Kind}
@@ -14,10 +14,8 @@ use Rattle.rl_script.specs.declared.settings.SettingWord.TheVariants as word
 
 -- which setting a first word begins
 abbrev pub setting_word : List ℕ → Option SettingWord
-setting_word w =
-    if bytes_eq w (codes "nodes") then Some word.Nodes else (if bytes_eq w (codes "workers") then Some word.Workers
-    else (if bytes_eq w (codes "batch") then Some word.Batch else (if bytes_eq w (codes "loss") then Some word.Loss
-    else (if bytes_eq w (codes "seed") then Some word.Seed else (if bytes_eq w (codes "stop") then Some word.Stop else None)))))
+setting_word = meaning {A = SettingWord}
+    ((codes "nodes", word.Nodes) ∷ (codes "workers", word.Workers) ∷ (codes "batch", word.Batch) ∷ (codes "loss", word.Loss) ∷ (codes "seed", word.Seed) ∷ (codes "stop", word.Stop) ∷ [])
 
 -- no setting is given yet
 abbrev pub no_settings : Settings
