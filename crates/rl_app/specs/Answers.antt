@@ -1,11 +1,10 @@
 -- What a command that reads a script answers.
 use Rattle.std.specs.Prelude.{◌≡◌, ℕ, List, [], ◌∷◌, ◌++◌, codes, MatchResult}
 use Rattle.std.specs.Fmt.{decimal}
-use Rattle.rl_base.specs.declared.limit.LimitName.{LimitName}
-use Rattle.rl_base.specs.declared.limit.LimitName.TheVariants as limits
 use Rattle.rl_events.specs.declared.kind.Kind.{Kind}
 use Rattle.rl_events.specs.declared.kind.Kind.TheVariants as kinds
 use Rattle.rl_script.specs.Read.{read}
+use Rattle.rl_script.specs.LimitNames.{limit_name}
 use Rattle.rl_script.specs.declared.fault.Problem.{Problem}
 use Rattle.rl_script.specs.declared.fault.Problem.TheVariants.{Fault, Limit}
 use Rattle.rl_script.specs.declared.script.Script.{Script}
@@ -26,20 +25,6 @@ kind_text kinds.UnknownTable = codes "UnknownTable"
 kind_text kinds.Register = codes "Register"
 kind_text kinds.Relation = codes "Relation"
 kind_text kinds.Unended = codes "Unended"
-
--- the word of a limit of the language
-abbrev pub limit_name : LimitName → List ℕ
-limit_name limits.Nodes = codes "nodes"
-limit_name limits.Workers = codes "workers"
-limit_name limits.Tables = codes "tables"
-limit_name limits.Records = codes "records"
-limit_name limits.Requests = codes "requests"
-limit_name limits.Ops = codes "ops"
-limit_name limits.Events = codes "events"
-limit_name limits.Elections = codes "elections"
-limit_name limits.Slots = codes "slots"
-limit_name limits.Bytes = codes "bytes"
-limit_name limits.Asks = codes "asks"
 
 -- the line of a fault: its line and its kind
 abbrev pub fault_line : ℕ → Kind → List ℕ

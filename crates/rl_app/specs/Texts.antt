@@ -53,14 +53,14 @@ run_text items tables rows =
 unfoldable pub serial_text : List Item → List Table → Rows → List ℕ
 serial_text items tables rows = codes "rolis serial\n" ++ run_text items tables rows
 
+-- `T K`, the place of a record
+abbrev pub place_text : List Table → (rec : ℕ) → List ℕ
+place_text tables r = let place = place_of (sizes_of tables) r in name_of tables place.0 ++ word place.1
+
 -- `locked T K WORD` or `changed T K SEEN FOUND`, each after a space
 abbrev pub cause_text : List Table → Refusal → List ℕ
-cause_text tables (Locked r found) =
-    let place = place_of (sizes_of tables) r in
-    codes " locked " ++ name_of tables place.0 ++ word place.1 ++ word found
-cause_text tables (Changed r seen found) =
-    let place = place_of (sizes_of tables) r in
-    codes " changed " ++ name_of tables place.0 ++ word place.1 ++ word seen ++ word found
+cause_text tables (Locked r found) = codes " locked " ++ place_text tables r ++ word found
+cause_text tables (Changed r seen found) = codes " changed " ++ place_text tables r ++ word seen ++ word found
 
 -- `refused 1 W I` and the cause: a refusal in epoch 1
 abbrev pub refused_text : List Table → ℕ → ℕ → Refusal → List ℕ

@@ -2,13 +2,15 @@
 
 ghost use Rattle.std.specs.Prelude.{◌≡◌, ◌≤◌, IfOk, MatchResult};
 ghost use Rattle.std.specs.String.{string_bytes};
-ghost use Rattle.rl_app.specs.Answers.{kind_text, limit_name, fault_line};
+ghost use Rattle.rl_script.specs.LimitNames.{limit_name};
+ghost use Rattle.rl_app.specs.Answers.{kind_text, fault_line};
 ghost use Rattle.rl_app.specs.Serve.{Delivers, limit_line, memory_line, side};
 
 use rl_base::limit::LimitName;
 use rl_base::memory::Memory;
 use rl_events::kind::Kind;
 use rl_io::sink::{Sink, write_whole};
+use rl_script::fault::name_of_limit;
 use std::alloc::Global;
 
 /// How a call ended: 0 where its output is written, 6 where a write failed and a prefix of its text
@@ -115,24 +117,5 @@ fn kind_name(kind: Kind) -> &'static str
         Kind::Register => "Register",
         Kind::Relation => "Relation",
         Kind::Unended => "Unended",
-    }
-}
-
-/// The name of a limit of the language, as it is printed.
-fn name_of_limit(name: LimitName) -> &'static str
-    ensures { result.now ≡ limit_name name }
-{
-    match name {
-        LimitName::Nodes => "nodes",
-        LimitName::Workers => "workers",
-        LimitName::Tables => "tables",
-        LimitName::Records => "records",
-        LimitName::Requests => "requests",
-        LimitName::Ops => "ops",
-        LimitName::Events => "events",
-        LimitName::Elections => "elections",
-        LimitName::Slots => "slots",
-        LimitName::Bytes => "bytes",
-        LimitName::Asks => "asks",
     }
 }

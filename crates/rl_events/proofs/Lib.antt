@@ -1,4 +1,5 @@
 pub mod Draws
 pub mod FiveWords
+pub mod FormsBack
 pub mod Kept
 pub mod ReadBack

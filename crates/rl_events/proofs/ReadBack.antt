@@ -3,7 +3,6 @@ use Rattle.std.proofs.Common.{◌≡◌, ℕ, ◌-◌, ◌^◌, ◌<◌, ◌≤�
 use Rattle.std.specs.Prelude.{ok_or}
 use Rattle.std.specs.Fmt.{decimal}
 use Rattle.std.proofs.lemmas.List.Elements.{All-nil, All-cons}
-use Rattle.rl_base.specs.Results.{◌>>=◌}
 use Rattle.rl_base.specs.declared.limit.TheConstants.{EVENTS}
 use Rattle.rl_text.specs.Printed.{line_of}
 use Rattle.rl_text.specs.Text.{words_of}
@@ -11,10 +10,12 @@ use Rattle.rl_text.proofs.WordsBack.{IsWord, number_of_decimal, number_within_de
 use Rattle.rl_events.specs.declared.event.Event.{Event}
 use Rattle.rl_events.specs.declared.event.Event.TheVariants as event
 use Rattle.rl_events.specs.declared.kind.Kind.TheVariants.{Byte, Number, Range}
-use Rattle.rl_events.specs.Events.{event_in, event_of, node_and_worker, random_event, step_event}
+use Rattle.rl_events.specs.Events.{event_in, event_of}
 use Rattle.rl_events.specs.Fits.{EventFits, IsOneOf}
+use Rattle.rl_events.specs.Forms.{Reading, one_word, two_words}
 use Rattle.rl_events.specs.Printed.{event_line, event_words}
 use Rattle.rl_events.specs.Words.{number, within}
+use Rattle.rl_events.proofs.FormsBack.{one_word_back, two_words_back, three_words_back}
 
 -- a printed line is judged by its words
 pub judged_by_words : (nodes workers : ℕ) (words : List (List ℕ)) → All IsWord words → event_in nodes workers (line_of words) ≡ event_of nodes workers words
@@ -29,23 +30,6 @@ within_back low high n above below small = number_within_decimal low high Number
 
 node_back : (nodes n : ℕ) → IsOneOf nodes n → n < 2 ^ 64 → within 1 nodes (decimal n) ≡ Ok n
 node_back nodes n there small = within_back 1 nodes n there.0 there.1 small
-
-node_and_worker_back : (nodes workers n w : ℕ) → IsOneOf nodes n → IsOneOf workers w → n < 2 ^ 64 → w < 2 ^ 64 → node_and_worker nodes workers (decimal n) (decimal w) ≡ Ok (n, w)
-unfolding node_and_worker
-node_and_worker_back nodes workers n w there next small low =
-    ap (λ r. r >>= λ n. within 1 workers (decimal w) >>= λ w. Ok (n, w)) (node_back nodes n there small) ∙ ap (λ r. r >>= λ w. Ok (n, w)) (node_back workers w next low)
-
-step_back : (nodes workers n w k : ℕ) → IsOneOf nodes n → IsOneOf workers w → 1 ≤ k → k ≤ EVENTS → n < 2 ^ 64 → w < 2 ^ 64 → k < 2 ^ 64 → step_event nodes workers (decimal n) (decimal w) (decimal k) ≡ Ok (event.Step n w k)
-unfolding step_event
-step_back nodes workers n w k there next some few small low short =
-    ap (λ r. r >>= λ at. within 1 EVENTS (decimal k) >>= λ k. Ok (event.Step at.0 at.1 k)) (node_and_worker_back nodes workers n w there next small low)
-    ∙ ap (λ r. r >>= λ k. Ok (event.Step n w k)) (within_back 1 EVENTS k some few short)
-
-random_back : (seed k : ℕ) → 1 ≤ k → k ≤ EVENTS → seed < 2 ^ 64 → k < 2 ^ 64 → random_event (decimal seed) (decimal k) ≡ Ok (event.Random seed k)
-unfolding random_event
-random_back seed k some few small short =
-    ap (λ r. r >>= λ seed. within 1 EVENTS (decimal k) >>= λ k. Ok (event.Random seed k)) (number_back seed small)
-    ∙ ap (λ r. r >>= λ k. Ok (event.Random seed k)) (within_back 1 EVENTS k some few short)
 
 -- the numbers of an event are below 2 ^ 64
 abbrev pub IsSmall : Event → Type 0
@@ -82,26 +66,34 @@ small_by_fit nodes workers (event.PlayAll n) few less fits = omega (arith, fits.
 small_by_fit nodes workers (event.Show n) few less fits = omega (arith, fits.1)
 small_by_fit nodes workers (event.Random seed k) few less fits = (fits.0, omega (arith, fits.2))
 
+-- the line of a word and a number
+of_one : (nodes workers n : ℕ) (word : List ℕ) (f : ℕ → Event) (read : Reading ℕ) → IsWord word → n < 2 ^ 64 → read (decimal n) ≡ Ok n → event_of nodes workers (word ∷ decimal n ∷ []) ≡ one_word f read (decimal n ∷ []) → event_in nodes workers (line_of (word ∷ decimal n ∷ [])) ≡ Ok (f n)
+of_one nodes workers n word f read is small back same =
+    judged_by_words nodes workers (word ∷ decimal n ∷ []) (one_number word n is small) ∙ same ∙ one_word_back f read (decimal n) n back
+
 -- the line of a word and a node
-of_node : (nodes workers n : ℕ) (word : List ℕ) (f : ℕ → Event) → IsWord word → IsOneOf nodes n → n < 2 ^ 64 → event_of nodes workers (word ∷ decimal n ∷ []) ≡ (within 1 nodes (decimal n) >>= λ n. Ok (f n)) → event_in nodes workers (line_of (word ∷ decimal n ∷ [])) ≡ Ok (f n)
-of_node nodes workers n word f is there small same =
-    judged_by_words nodes workers (word ∷ decimal n ∷ []) (one_number word n is small) ∙ same ∙ ap (λ r. r >>= λ n. Ok (f n)) (node_back nodes n there small)
+of_node : (nodes workers n : ℕ) (word : List ℕ) (f : ℕ → Event) → IsWord word → IsOneOf nodes n → n < 2 ^ 64 → event_of nodes workers (word ∷ decimal n ∷ []) ≡ one_word f (within 1 nodes) (decimal n ∷ []) → event_in nodes workers (line_of (word ∷ decimal n ∷ [])) ≡ Ok (f n)
+of_node nodes workers n word f is there small same = of_one nodes workers n word f (within 1 nodes) is small (node_back nodes n there small) same
+
+-- the line of a word and two numbers
+of_two : (nodes workers n w : ℕ) (word : List ℕ) (f : ℕ → ℕ → Event) (read next : Reading ℕ) → IsWord word → n < 2 ^ 64 → w < 2 ^ 64 → read (decimal n) ≡ Ok n → next (decimal w) ≡ Ok w → event_of nodes workers (word ∷ decimal n ∷ decimal w ∷ []) ≡ two_words f read next (decimal n ∷ decimal w ∷ []) → event_in nodes workers (line_of (word ∷ decimal n ∷ decimal w ∷ [])) ≡ Ok (f n w)
+of_two nodes workers n w word f read next is small low back after same =
+    judged_by_words nodes workers (word ∷ decimal n ∷ decimal w ∷ []) (two_numbers word n w is small low) ∙ same ∙ two_words_back f read next (decimal n) (decimal w) n w back after
 
 -- the line of a word, a node, and one of its workers or streams
-of_place : (nodes workers n w : ℕ) (word : List ℕ) (f : ℕ → ℕ → Event) → IsWord word → IsOneOf nodes n → IsOneOf workers w → n < 2 ^ 64 → w < 2 ^ 64 → event_of nodes workers (word ∷ decimal n ∷ decimal w ∷ []) ≡ (node_and_worker nodes workers (decimal n) (decimal w) >>= λ at. Ok (f at.0 at.1)) → event_in nodes workers (line_of (word ∷ decimal n ∷ decimal w ∷ [])) ≡ Ok (f n w)
+of_place : (nodes workers n w : ℕ) (word : List ℕ) (f : ℕ → ℕ → Event) → IsWord word → IsOneOf nodes n → IsOneOf workers w → n < 2 ^ 64 → w < 2 ^ 64 → event_of nodes workers (word ∷ decimal n ∷ decimal w ∷ []) ≡ two_words f (within 1 nodes) (within 1 workers) (decimal n ∷ decimal w ∷ []) → event_in nodes workers (line_of (word ∷ decimal n ∷ decimal w ∷ [])) ≡ Ok (f n w)
 of_place nodes workers n w word f is there next small low same =
-    judged_by_words nodes workers (word ∷ decimal n ∷ decimal w ∷ []) (two_numbers word n w is small low) ∙ same ∙ ap (λ r. r >>= λ at. Ok (f at.0 at.1)) (node_and_worker_back nodes workers n w there next small low)
+    of_two nodes workers n w word f (within 1 nodes) (within 1 workers) is small low (node_back nodes n there small) (node_back workers w next low) same
 
 pub reads_back : (nodes workers : ℕ) (e : Event) → IsSmall e → EventFits nodes workers e → event_in nodes workers (event_line e) ≡ Ok e
 reads_back nodes workers (event.Step n w k) small fits =
     judged_by_words nodes workers (codes "step" ∷ decimal n ∷ decimal w ∷ decimal k ∷ []) (three_numbers (codes "step") n w k (omega arith, refl) small.0 small.1 small.2)
-    ∙ step_back nodes workers n w k fits.0 fits.1 fits.2 fits.3 small.0 small.1 small.2
+    ∙ three_words_back event.Step (within 1 nodes) (within 1 workers) (within 1 EVENTS) (decimal n) (decimal w) (decimal k) n w k
+        (node_back nodes n fits.0 small.0) (node_back workers w fits.1 small.1) (within_back 1 EVENTS k fits.2 fits.3 small.2)
 reads_back nodes workers (event.Flush n w) small fits = of_place nodes workers n w (codes "flush") event.Flush (omega arith, refl) fits.0 fits.1 small.0 small.1 refl
 reads_back nodes workers (event.Idle n w) small fits = of_place nodes workers n w (codes "idle") event.Idle (omega arith, refl) fits.0 fits.1 small.0 small.1 refl
-reads_back nodes workers (event.Dlv k) small fits =
-    judged_by_words nodes workers (codes "dlv" ∷ decimal k ∷ []) (one_number (codes "dlv") k (omega arith, refl) small) ∙ ap (λ r. r >>= λ k. Ok (event.Dlv k)) (within_back 1 (2 ^ 64 - 1) k fits.0 (omega arith) small)
-reads_back nodes workers (event.Discard k) small fits =
-    judged_by_words nodes workers (codes "drop" ∷ decimal k ∷ []) (one_number (codes "drop") k (omega arith, refl) small) ∙ ap (λ r. r >>= λ k. Ok (event.Discard k)) (number_back k small)
+reads_back nodes workers (event.Dlv k) small fits = of_one nodes workers k (codes "dlv") event.Dlv (within 1 (2 ^ 64 - 1)) (omega arith, refl) small (within_back 1 (2 ^ 64 - 1) k fits.0 (omega arith) small) refl
+reads_back nodes workers (event.Discard k) small fits = of_one nodes workers k (codes "drop") event.Discard number (omega arith, refl) small (number_back k small) refl
 reads_back nodes workers event.All small fits = refl
 reads_back nodes workers (event.Elect n) small fits = of_node nodes workers n (codes "elect") event.Elect (omega arith, refl) fits small refl
 reads_back nodes workers (event.Tick n) small fits = of_node nodes workers n (codes "tick") event.Tick (omega arith, refl) fits small refl
@@ -112,8 +104,7 @@ reads_back nodes workers (event.Play n s) small fits = of_place nodes workers n 
 reads_back nodes workers (event.PlayAll n) small fits = of_node nodes workers n (codes "playall") event.PlayAll (omega arith, refl) fits small refl
 reads_back nodes workers (event.Show n) small fits = of_node nodes workers n (codes "show") event.Show (omega arith, refl) fits small refl
 reads_back nodes workers (event.Random seed k) small fits =
-    judged_by_words nodes workers (codes "random" ∷ decimal seed ∷ decimal k ∷ []) (two_numbers (codes "random") seed k (omega arith, refl) small.0 small.1)
-    ∙ random_back seed k fits.1 fits.2 small.0 small.1
+    of_two nodes workers seed k (codes "random") event.Random number (within 1 EVENTS) (omega arith, refl) small.0 small.1 (number_back seed small.0) (within_back 1 EVENTS k fits.1 fits.2 small.1) refl
 
 -- the words of an event
 pub event_words_are_words : (e : Event) → IsSmall e → All IsWord (event_words e)

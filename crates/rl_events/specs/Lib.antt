@@ -1,5 +1,6 @@
 pub mod Events
 pub mod Expanded
 pub mod Fits
+pub mod Forms
 pub mod Printed
 pub mod Words

@@ -1,7 +1,7 @@
 //! Lines that say an event.
 
 ghost use Rattle.std.specs.Prelude.{◌≡◌, ℕ, [], ◌∷◌, map, MatchResult, Ok, Err, IfOk};
-ghost use Rattle.rl_events.specs.Events.{event_word, node_and_worker, step_event, random_event, read_event, event_of, event_in};
+ghost use Rattle.rl_events.specs.Events.{event_word, read_event, event_of, event_in};
 ghost use Rattle.rl_events.specs.Fits.{IsOneOf, EventFits};
 
 use crate::event::Event;
@@ -78,50 +78,6 @@ pub fn event_word(word: &str) -> Option<EventWord>
     }
 }
 
-/// A node, and one of its workers or streams.
-#[tactic(auto, unfolding(crate::specs::Events::node_and_worker))]
-fn node_and_worker(node: &str, worker: &str, nodes: u32, workers: u32) -> Result<(u32, u32), Kind>
-    ensures place { result ≡ node_and_worker nodes workers node.now worker.now }
-    ensures node { IfOk result (λ at. IsOneOf nodes at.0) }
-    ensures worker { IfOk result (λ at. IsOneOf workers at.1) }
-{
-    let node = within(1, nodes, node)?;
-    let worker = within(1, workers, worker)?;
-    Ok((node, worker))
-}
-
-/// `step N W K`
-#[tactic(auto, unfolding(crate::specs::Events::step_event))]
-fn step_event(
-    node: &str,
-    worker: &str,
-    count: &str,
-    nodes: u32,
-    workers: u32,
-) -> Result<Event, Kind>
-    ensures event { result ≡ step_event nodes workers node.now worker.now count.now }
-    ensures fits { IfOk result (λ event. EventFits nodes workers event) }
-{
-    let (node, worker) = node_and_worker(node, worker, nodes, workers)?;
-    let count = within(1, EVENTS, count)?;
-    Ok(Event::Step {
-        node,
-        worker,
-        count,
-    })
-}
-
-/// `random S K`
-#[tactic(auto, unfolding(crate::specs::Events::random_event))]
-fn random_event(seed: &str, count: &str) -> Result<Event, Kind>
-    ensures event { result ≡ random_event seed.now count.now }
-    ensures fits { (nodes workers : ℕ) → IfOk result (λ event. EventFits nodes workers event) }
-{
-    let seed = number(seed)?;
-    let count = within(1, EVENTS, count)?;
-    Ok(Event::Random { seed, count })
-}
-
 /// The event of a word and no more.
 fn event_of_none(word: EventWord, nodes: u32, workers: u32) -> Result<Event, Kind>
     ensures event { result ≡ read_event nodes workers word [] }
@@ -174,19 +130,44 @@ fn event_of_two(word: EventWord, a: &str, b: &str, nodes: u32, workers: u32) -> 
     ensures fits { IfOk result (λ event. EventFits nodes workers event) }
 {
     match word {
-        EventWord::Flush => {
-            let (node, worker) = node_and_worker(a, b, nodes, workers)?;
-            Ok(Event::Flush { node, worker })
-        }
-        EventWord::Idle => {
-            let (node, worker) = node_and_worker(a, b, nodes, workers)?;
-            Ok(Event::Idle { node, worker })
-        }
-        EventWord::Play => {
-            let (node, stream) = node_and_worker(a, b, nodes, workers)?;
-            Ok(Event::Play { node, stream })
-        }
-        EventWord::Random => random_event(a, b),
+        EventWord::Flush => Ok(Event::Flush {
+            node: within(1, nodes, a)?,
+            worker: within(1, workers, b)?,
+        }),
+        EventWord::Idle => Ok(Event::Idle {
+            node: within(1, nodes, a)?,
+            worker: within(1, workers, b)?,
+        }),
+        EventWord::Play => Ok(Event::Play {
+            node: within(1, nodes, a)?,
+            stream: within(1, workers, b)?,
+        }),
+        EventWord::Random => Ok(Event::Random {
+            seed: number(a)?,
+            count: within(1, EVENTS, b)?,
+        }),
+        _ => Err(Kind::Count),
+    }
+}
+
+/// The event of a word and three more.
+fn event_of_three(
+    word: EventWord,
+    a: &str,
+    b: &str,
+    c: &str,
+    nodes: u32,
+    workers: u32,
+) -> Result<Event, Kind>
+    ensures event { result ≡ read_event nodes workers word (a.now ∷ b.now ∷ c.now ∷ []) }
+    ensures fits { IfOk result (λ event. EventFits nodes workers event) }
+{
+    match word {
+        EventWord::Step => Ok(Event::Step {
+            node: within(1, nodes, a)?,
+            worker: within(1, workers, b)?,
+            count: within(1, EVENTS, c)?,
+        }),
         _ => Err(Kind::Count),
     }
 }
@@ -203,9 +184,7 @@ pub fn read_event(word: EventWord, words: &[&str], nodes: u32, workers: u32) -> 
         [] => event_of_none(word, nodes, workers),
         [n] => event_of_one(word, n, nodes, workers),
         [a, b] => event_of_two(word, a, b, nodes, workers),
-        [node, worker, count] if word == EventWord::Step => {
-            step_event(node, worker, count, nodes, workers)
-        }
+        [a, b, c] => event_of_three(word, a, b, c, nodes, workers),
         _ => Err(Kind::Count),
     }
 }

@@ -21,11 +21,13 @@ use Rattle.rl_text.proofs.WordsBack.{IsWord, is_seen, decimal_is_word, each_is_w
 use Rattle.rl_events.specs.Words.{number, within}
 use Rattle.rl_events.specs.declared.kind.Kind.{Kind}
 use Rattle.rl_events.specs.declared.kind.Kind.TheVariants.{Register, UnknownTable}
+use Rattle.rl_events.specs.Forms.{three_words, four_words}
+use Rattle.rl_events.proofs.FormsBack.{one_word_back, two_words_back, three_words_back, four_words_back}
 use Rattle.rl_events.proofs.ReadBack.{number_back, within_back}
 use Rattle.rl_script.specs.Lines.{line_kind}
-use Rattle.rl_script.specs.Operations.{each_word, known_table, table_for, read_op, set_of, terms_of, get_of, has_of, put_of, del_of, scan_of, need_of, skip_of}
+use Rattle.rl_script.specs.Operations.{column, each_word, known_table, table_for, read_op}
 use Rattle.rl_script.specs.Printed.{register_word, operand_word, relation_word, op_words}
-use Rattle.rl_script.specs.Read.{op_joined, read_words, with_op}
+use Rattle.rl_script.specs.Read.{read_words, with_op}
 use Rattle.rl_script.specs.Words.{operand, register, relation}
 use Rattle.rl_script.specs.declared.draft.Draft.{Draft}
 use Rattle.rl_script.specs.declared.line.LineKind.TheVariants as line
@@ -124,89 +126,52 @@ column_back tables t c schema there within_table =
 
 -- the ops
 
-set_back : (d : ℕ) (a : Operand) → d < 16 → OperandFits a → set_of (register_word d) (operand_word a) ≡ Ok (op.Set d a)
-unfolding set_of
-set_back d a small fits =
-    ap (λ r. r >>= λ d. operand (operand_word a) >>= λ a. Ok (op.Set d a)) (register_read d small) ∙ ap (λ r. r >>= λ a. Ok (op.Set d a)) (operand_back a fits)
-
-terms_back : (d : ℕ) (a b : Operand) → d < 16 → OperandFits a → OperandFits b → terms_of (register_word d) (operand_word a) (operand_word b) ≡ Ok (d, a, b)
-unfolding terms_of
-terms_back d a b low first second =
-    ap (λ r. r >>= λ d. operand (operand_word a) >>= λ a. operand (operand_word b) >>= λ b. Ok (d, a, b)) (register_read d low)
-    ∙ ap (λ r. r >>= λ a. operand (operand_word b) >>= λ b. Ok (d, a, b)) (operand_back a first)
-    ∙ ap (λ r. r >>= λ b. Ok (d, a, b)) (operand_back b second)
-
-get_back : (tables : List Table) (t : ℕ) (k : Operand) (c d : ℕ) → IsSchema tables → OpFits tables (op.Get t k c d) → get_of tables (name_of tables t) (operand_word k) (decimal c) (register_word d) ≡ Ok (op.Get t k c d)
-unfolding get_of
+get_back : (tables : List Table) (t : ℕ) (k : Operand) (c d : ℕ) → IsSchema tables → OpFits tables (op.Get t k c d) → read_op tables word.Get (name_of tables t ∷ operand_word k ∷ decimal c ∷ register_word d ∷ []) ≡ Ok (op.Get t k c d)
 get_back tables t k c d schema fits =
-    ap (λ r. r >>= λ t. operand (operand_word k) >>= λ k. within 0 (columns_of tables t - 1) (decimal c) >>= λ c. register (register_word d) >>= λ d. Ok (op.Get t k c d)) (known_back tables t schema fits.0)
-    ∙ ap (λ r. r >>= λ k. within 0 (columns_of tables t - 1) (decimal c) >>= λ c. register (register_word d) >>= λ d. Ok (op.Get t k c d)) (operand_back k fits.1)
-    ∙ ap (λ r. r >>= λ c. register (register_word d) >>= λ d. Ok (op.Get t k c d)) (column_back tables t c schema fits.0 fits.2)
-    ∙ ap (λ r. r >>= λ d. Ok (op.Get t k c d)) (register_read d fits.3)
+    ap (λ r. r >>= λ t. three_words (op.Get t) operand (column tables t) register (operand_word k ∷ decimal c ∷ register_word d ∷ [])) (known_back tables t schema fits.0)
+    ∙ three_words_back (op.Get t) operand (column tables t) register (operand_word k) (decimal c) (register_word d) k c d (operand_back k fits.1) (column_back tables t c schema fits.0 fits.2) (register_read d fits.3)
 
-has_back : (tables : List Table) (t : ℕ) (k : Operand) (d : ℕ) → IsSchema tables → OpFits tables (op.Has t k d) → has_of tables (name_of tables t) (operand_word k) (register_word d) ≡ Ok (op.Has t k d)
-unfolding has_of
-has_back tables t k d schema fits =
-    ap (λ r. r >>= λ t. operand (operand_word k) >>= λ k. register (register_word d) >>= λ d. Ok (op.Has t k d)) (known_back tables t schema fits.0)
-    ∙ ap (λ r. r >>= λ k. register (register_word d) >>= λ d. Ok (op.Has t k d)) (operand_back k fits.1)
-    ∙ ap (λ r. r >>= λ d. Ok (op.Has t k d)) (register_read d fits.2)
+scan_back : (tables : List Table) (t : ℕ) (k : Operand) (n c d : ℕ) → IsSchema tables → OpFits tables (op.Scan t k n c d) → read_op tables word.Scan (name_of tables t ∷ operand_word k ∷ decimal n ∷ decimal c ∷ register_word d ∷ []) ≡ Ok (op.Scan t k n c d)
+scan_back tables t k n c d schema fits =
+    ap (λ r. r >>= λ t. four_words (op.Scan t) operand (within 1 256) (column tables t) register (operand_word k ∷ decimal n ∷ decimal c ∷ register_word d ∷ [])) (known_back tables t schema fits.0)
+    ∙ four_words_back (op.Scan t) operand (within 1 256) (column tables t) register (operand_word k) (decimal n) (decimal c) (register_word d) k n c d
+        (operand_back k fits.1) (within_back 1 256 n fits.2 fits.3 (omega (arith, fits.3))) (column_back tables t c schema fits.0 fits.4) (register_read d fits.5)
 
-put_back : (tables : List Table) (t : ℕ) (k : Operand) (values : List Operand) → IsSchema tables → OpFits tables (op.Put t k values) → put_of tables (name_of tables t) (operand_word k) (map operand_word values) ≡ Ok (op.Put t k values)
-unfolding put_of
+put_back : (tables : List Table) (t : ℕ) (k : Operand) (values : List Operand) → IsSchema tables → OpFits tables (op.Put t k values) → read_op tables word.Put (name_of tables t ∷ operand_word k ∷ map operand_word values) ≡ Ok (op.Put t k values)
 put_back tables t k values schema fits =
     ap (λ r. r >>= λ t. operand (operand_word k) >>= λ k. each_word operand (map operand_word values) >>= λ values. Ok (op.Put t k values))
     (table_for_back tables t (length (map operand_word values)) schema fits.0 (length-map values operand_word ∙ fits.5))
     ∙ ap (λ r. r >>= λ k. each_word operand (map operand_word values) >>= λ values. Ok (op.Put t k values)) (operand_back k fits.1)
     ∙ ap (λ r. r >>= λ values. Ok (op.Put t k values)) (each_operand_back values fits.2)
 
-del_back : (tables : List Table) (t : ℕ) (k : Operand) → IsSchema tables → OpFits tables (op.Del t k) → del_of tables (name_of tables t) (operand_word k) ≡ Ok (op.Del t k)
-unfolding del_of
-del_back tables t k schema fits =
-    ap (λ r. r >>= λ t. operand (operand_word k) >>= λ k. Ok (op.Del t k)) (known_back tables t schema fits.0)
-    ∙ ap (λ r. r >>= λ k. Ok (op.Del t k)) (operand_back k fits.1)
-
-scan_back : (tables : List Table) (t : ℕ) (k : Operand) (n c d : ℕ) → IsSchema tables → OpFits tables (op.Scan t k n c d) → scan_of tables (name_of tables t) (operand_word k) (decimal n) (decimal c) (register_word d) ≡ Ok (op.Scan t k n c d)
-unfolding scan_of
-scan_back tables t k n c d schema fits =
-    ap (λ r. r >>= λ t. operand (operand_word k) >>= λ k. within 1 256 (decimal n) >>= λ n. within 0 (columns_of tables t - 1) (decimal c) >>= λ c. register (register_word d) >>= λ d. Ok (op.Scan t k n c d)) (known_back tables t schema fits.0)
-    ∙ ap (λ r. r >>= λ k. within 1 256 (decimal n) >>= λ n. within 0 (columns_of tables t - 1) (decimal c) >>= λ c. register (register_word d) >>= λ d. Ok (op.Scan t k n c d)) (operand_back k fits.1)
-    ∙ ap (λ r. r >>= λ n. within 0 (columns_of tables t - 1) (decimal c) >>= λ c. register (register_word d) >>= λ d. Ok (op.Scan t k n c d)) (within_back 1 256 n fits.2 fits.3 (omega (arith, fits.3)))
-    ∙ ap (λ r. r >>= λ c. register (register_word d) >>= λ d. Ok (op.Scan t k n c d)) (column_back tables t c schema fits.0 fits.4)
-    ∙ ap (λ r. r >>= λ d. Ok (op.Scan t k n c d)) (register_read d fits.5)
-
-need_back : (a : Operand) (rel : Rel) (b : Operand) → OperandFits a → OperandFits b → need_of (operand_word a) (relation_word rel) (operand_word b) ≡ Ok (op.Need a rel b)
-unfolding need_of
-need_back a rel b fits next =
-    ap (λ r. r >>= λ a. relation (relation_word rel) >>= λ rel. operand (operand_word b) >>= λ b. Ok (op.Need a rel b)) (operand_back a fits)
-    ∙ ap (λ r. r >>= λ rel. operand (operand_word b) >>= λ b. Ok (op.Need a rel b)) (relation_back rel)
-    ∙ ap (λ r. r >>= λ b. Ok (op.Need a rel b)) (operand_back b next)
-
-skip_back : (a : Operand) (rel : Rel) (b : Operand) (n : ℕ) → OperandFits a → OperandFits b → 1 ≤ n → n ≤ 64 → skip_of (operand_word a) (relation_word rel) (operand_word b) (decimal n) ≡ Ok (op.Skip a rel b n)
-unfolding skip_of
-skip_back a rel b n fits next some few =
-    ap (λ r. r >>= λ a. relation (relation_word rel) >>= λ rel. operand (operand_word b) >>= λ b. within 1 64 (decimal n) >>= λ n. Ok (op.Skip a rel b n)) (operand_back a fits)
-    ∙ ap (λ r. r >>= λ rel. operand (operand_word b) >>= λ b. within 1 64 (decimal n) >>= λ n. Ok (op.Skip a rel b n)) (relation_back rel)
-    ∙ ap (λ r. r >>= λ b. within 1 64 (decimal n) >>= λ n. Ok (op.Skip a rel b n)) (operand_back b next)
-    ∙ ap (λ r. r >>= λ n. Ok (op.Skip a rel b n)) (within_back 1 64 n some few (omega arith))
+-- the three words of a sum, a difference or a product
+terms_back : (make : ℕ → Operand → Operand → Op) (d : ℕ) (a b : Operand) → d < 16 → OperandFits a → OperandFits b → three_words make register operand operand (register_word d ∷ operand_word a ∷ operand_word b ∷ []) ≡ Ok (make d a b)
+terms_back make d a b low first second =
+    three_words_back make register operand operand (register_word d) (operand_word a) (operand_word b) d a b (register_read d low) (operand_back a first) (operand_back b second)
 
 -- a line that begins with an op's word, inside a transaction
 op_joins : (draft : Draft) (first : List ℕ) (w : OpWord) (words : List (List ℕ)) (op : Op) → (slice_index first 0 == 35) ≡ false → line_kind draft.section first ≡ Some (line.Op w) → is_some draft.current ≡ true → read_op draft.schema w words ≡ Ok op → read_words draft (first ∷ words) ≡ with_op draft op
-unfolding read_words op_joined
+unfolding read_words
 op_joins draft first w words op no_comment kind opened is = rw (no_comment, kind, opened, is) refl
 
 pub op_line_back : (draft : Draft) (op : Op) → IsSchema draft.schema → OpFits draft.schema op → is_some draft.current ≡ true → read_words draft (op_words draft.schema op) ≡ with_op draft op
-op_line_back draft (op.Set d a) schema fits opened = op_joins draft (codes "set") word.Set _ _ refl refl opened (set_back d a fits.0 fits.1)
-op_line_back draft (op.Add d a b) schema fits opened = op_joins draft (codes "add") word.Add _ _ refl refl opened (ap (λ r. r >>= λ t. Ok (op.Add t.0 t.1 t.2)) (terms_back d a b fits.0 fits.1 fits.2))
-op_line_back draft (op.Sub d a b) schema fits opened = op_joins draft (codes "sub") word.Sub _ _ refl refl opened (ap (λ r. r >>= λ t. Ok (op.Sub t.0 t.1 t.2)) (terms_back d a b fits.0 fits.1 fits.2))
-op_line_back draft (op.Mul d a b) schema fits opened = op_joins draft (codes "mul") word.Mul _ _ refl refl opened (ap (λ r. r >>= λ t. Ok (op.Mul t.0 t.1 t.2)) (terms_back d a b fits.0 fits.1 fits.2))
+op_line_back draft (op.Set d a) schema fits opened = op_joins draft (codes "set") word.Set _ _ refl refl opened
+    (two_words_back op.Set register operand (register_word d) (operand_word a) d a (register_read d fits.0) (operand_back a fits.1))
+op_line_back draft (op.Add d a b) schema fits opened = op_joins draft (codes "add") word.Add _ _ refl refl opened (terms_back op.Add d a b fits.0 fits.1 fits.2)
+op_line_back draft (op.Sub d a b) schema fits opened = op_joins draft (codes "sub") word.Sub _ _ refl refl opened (terms_back op.Sub d a b fits.0 fits.1 fits.2)
+op_line_back draft (op.Mul d a b) schema fits opened = op_joins draft (codes "mul") word.Mul _ _ refl refl opened (terms_back op.Mul d a b fits.0 fits.1 fits.2)
 op_line_back draft (op.Get t k c d) schema fits opened = op_joins draft (codes "get") word.Get _ _ refl refl opened (get_back draft.schema t k c d schema fits)
-op_line_back draft (op.Has t k d) schema fits opened = op_joins draft (codes "has") word.Has _ _ refl refl opened (has_back draft.schema t k d schema fits)
+op_line_back draft (op.Has t k d) schema fits opened = op_joins draft (codes "has") word.Has _ _ refl refl opened
+    (three_words_back op.Has (known_table draft.schema) operand register (name_of draft.schema t) (operand_word k) (register_word d) t k d (known_back draft.schema t schema fits.0) (operand_back k fits.1) (register_read d fits.2))
 op_line_back draft (op.Put t k values) schema fits opened = op_joins draft (codes "put") word.Put _ _ refl refl opened (put_back draft.schema t k values schema fits)
-op_line_back draft (op.Del t k) schema fits opened = op_joins draft (codes "del") word.Del _ _ refl refl opened (del_back draft.schema t k schema fits)
+op_line_back draft (op.Del t k) schema fits opened = op_joins draft (codes "del") word.Del _ _ refl refl opened
+    (two_words_back op.Del (known_table draft.schema) operand (name_of draft.schema t) (operand_word k) t k (known_back draft.schema t schema fits.0) (operand_back k fits.1))
 op_line_back draft (op.Scan t k n c d) schema fits opened = op_joins draft (codes "scan") word.Scan _ _ refl refl opened (scan_back draft.schema t k n c d schema fits)
-op_line_back draft (op.Need a rel b) schema fits opened = op_joins draft (codes "need") word.Need _ _ refl refl opened (need_back a rel b fits.0 fits.1)
-op_line_back draft (op.Skip a rel b n) schema fits opened = op_joins draft (codes "skip") word.Skip _ _ refl refl opened (skip_back a rel b n fits.0 fits.1 fits.2 fits.3)
-op_line_back draft (op.Out a) schema fits opened = op_joins draft (codes "out") word.Out _ _ refl refl opened (ap (λ r. r >>= λ a. Ok (op.Out a)) (operand_back a fits))
+op_line_back draft (op.Need a rel b) schema fits opened = op_joins draft (codes "need") word.Need _ _ refl refl opened
+    (three_words_back op.Need operand relation operand (operand_word a) (relation_word rel) (operand_word b) a rel b (operand_back a fits.0) (relation_back rel) (operand_back b fits.1))
+op_line_back draft (op.Skip a rel b n) schema fits opened = op_joins draft (codes "skip") word.Skip _ _ refl refl opened
+    (four_words_back op.Skip operand relation operand (within 1 64) (operand_word a) (relation_word rel) (operand_word b) (decimal n) a rel b n (operand_back a fits.0) (relation_back rel) (operand_back b fits.1) (within_back 1 64 n fits.2 fits.3 (omega arith)))
+op_line_back draft (op.Out a) schema fits opened = op_joins draft (codes "out") word.Out _ _ refl refl opened (one_word_back op.Out operand (operand_word a) a (operand_back a fits))
 
 -- the words of an op are words
 

@@ -13,7 +13,7 @@ use Rattle.rl_value.specs.Tables.{Table, IsSchema}
 use Rattle.rl_value.proofs.PlacesLemmas.{places_total}
 use Rattle.rl_txn.specs.declared.op.Op.{Op}
 use Rattle.rl_txn.proofs.RowSets.{same_place}
-use Rattle.rl_text.specs.Printed.{line_of, Line}
+use Rattle.rl_text.specs.Printed.{Line}
 use Rattle.rl_text.proofs.WordsBack.{IsWord, lines_of_text}
 use Rattle.rl_events.specs.Fits.{EventFits, count_of, elections_of}
 use Rattle.rl_events.specs.Printed.{event_words}
@@ -27,13 +27,13 @@ use Rattle.rl_script.specs.declared.settings.Settings.{Settings}
 use Rattle.rl_script.specs.Fits.{ScriptFits}
 use Rattle.rl_script.specs.Sections.{is_events}
 use Rattle.rl_script.specs.Printed.{event_lines, header_line, list_lines, printed, rows_of_table, script_lines, setting_lines, table_line}
-use Rattle.rl_script.specs.Read.{after_header, header_fault, in_order, opening_draft, read, read_text, script_of}
+use Rattle.rl_script.specs.Read.{in_order, opening_draft, read, read_text, script_of, with_settings}
 use Rattle.rl_script.specs.Settings.{nodes_of, workers_of}
 use Rattle.rl_script.proofs.EventsBack.{events_back}
 use Rattle.rl_script.proofs.FitsLemmas.{before_events, few_keys}
 use Rattle.rl_script.proofs.LinesBack.{reads, kind_line, lines_back, more_lines, no_lines, one_line}
 use Rattle.rl_script.proofs.RowsBack.{RowsFor, Upto, every_table}
-use Rattle.rl_script.proofs.SettingsBack.{all_settings, settings_back, with_settings}
+use Rattle.rl_script.proofs.SettingsBack.{all_settings, settings_back}
 use Rattle.rl_script.proofs.TablesBack.{tables_back}
 use Rattle.rl_script.proofs.TxnsBack.{TxnsFor, lists_back}
 use Rattle.rl_script.proofs.WordsBack.{lines_are_words}
@@ -146,10 +146,6 @@ whole_back script fits ok =
       is = more_lines opening_draft requested (settings ++ tables ++ rows ++ txns) events to_txns ∙ scheduled.is;
     }
 
-header_ok : header_fault (line_of header_line) ≡ None
-unfolding header_fault
-header_ok = refl
-
 pub script_back : (script : Script) → ScriptFits script → read (printed script) ≡ Ok script
 unfolding read
 script_back script fits =
@@ -158,5 +154,4 @@ script_back script fits =
     let back = whole_back script fits ok in
     let rest : List Line = setting_lines script ++ map table_line script.schema ++ flat_map (rows_of_table script.schema script.rows) (range_with_len 0 (length script.schema)) ++ list_lines script.schema 1 script.lists ++ event_lines script.events in
     ap (λ lines. read_text lines >>= λ draft. Ok (script_of draft)) (lines_of_text (script_lines script) all)
-    ∙ ap (λ fault. after_header fault (map line_of rest) >>= λ draft. Ok (script_of draft)) header_ok
     ∙ ap (λ r. r >>= λ draft. Ok (script_of draft)) (lines_back 2 opening_draft (whole script back.at) rest (All-tail (All IsWord) header_line rest all) back.is refl)

@@ -19,16 +19,12 @@ use Rattle.rl_script.specs.Fits.{ScriptFits}
 use Rattle.rl_script.specs.Lines.{line_kind}
 use Rattle.rl_script.specs.Printed.{setting_lines, stop_line}
 use Rattle.rl_script.specs.Sections.{is_settings}
-use Rattle.rl_script.specs.Read.{opening_draft, read_words, setting}
+use Rattle.rl_events.specs.Words.{within}
+use Rattle.rl_script.specs.Read.{opening_draft, read_words, with_settings}
 use Rattle.rl_script.specs.Settings.{no_settings, given, once, one_more, with_setting, workers_of}
 use Rattle.rl_script.proofs.LinesBack.{reads, kind_line, no_lines, one_line}
 
--- the draft with other settings
-abbrev pub with_settings : Draft → Settings → Draft
-with_settings draft settings = record draft { settings = settings; lists = replicate (workers_of settings) [] }
-
 setting_line : (draft : Draft) (name value : List ℕ) (which : SettingWord) (settings : Settings) → (slice_index name 0 == 35) ≡ false → line_kind draft.section name ≡ Some (line.Setting which) → is_settings draft.section ≡ true → with_setting draft.settings which value ≡ Ok settings → read_words draft (name ∷ value ∷ []) ≡ Ok (with_settings draft settings)
-unfolding setting
 setting_line draft name value which settings no_comment is first set =
     kind_line draft name (value ∷ []) (line.Setting which) no_comment is first ∙ ap (λ r. as_problem r >>= λ settings. Ok (with_settings draft settings)) set
 
@@ -38,7 +34,7 @@ stop_set : (s : Settings) (d : ℕ) → IsWithin 1 1000000 d → length s.stops 
 unfolding with_setting
 stop_set s d there few =
     let room : one_more s.stops d ≡ Ok (s.stops ++ d ∷ []) = grind (arith, nat_tests) in
-    ap (λ r. r >>= λ d. one_more s.stops d >>= λ stops. Ok (record s { stops = stops })) (within_back 1 1000000 d there.0 there.1 (omega (arith, there.1)))
+    ap (λ r. (r >>= one_more s.stops) >>= λ stops. Ok (record s { stops = stops })) (within_back 1 1000000 d there.0 there.1 (omega (arith, there.1)))
     ∙ ap (λ r. r >>= λ stops. Ok (record s { stops = stops })) room
 
 stops_back : (draft : Draft) (stops : List ℕ) → is_settings draft.section ≡ true → draft.lists ≡ replicate (workers_of draft.settings) [] → All (IsWithin 1 1000000) stops → length draft.settings.stops + length stops ≤ 63
@@ -55,7 +51,7 @@ stops_back draft (d ∷ stops) first empty all few =
 
 -- the settings that are given once
 
-given_back : (low high n : ℕ) → IsWithin low high n → n < 2 ^ 64 → given low high None (decimal n) ≡ Ok (Some n)
+given_back : (low high n : ℕ) → IsWithin low high n → n < 2 ^ 64 → given (within low high) None (decimal n) ≡ Ok (Some n)
 given_back low high n there small = ap (λ r. r >>= λ n. once None n) (within_back low high n there.0 there.1 small)
 
 nodes_set : (s : Settings) (n : ℕ) → s.nodes ≡ None → IsWithin 1 7 n → with_setting s word.Nodes (decimal n) ≡ Ok (record s { nodes = Some n })
@@ -77,8 +73,7 @@ loss_set s n new there = rw new (ap (λ r. r >>= λ loss. Ok (record s { loss = 
 seed_set : (s : Settings) (n : ℕ) → s.seed ≡ None → n < 2 ^ 64 → with_setting s word.Seed (decimal n) ≡ Ok (record s { seed = Some n })
 unfolding with_setting
 seed_set s n new there =
-    ap (λ r. r >>= λ n. once s.seed n >>= λ seed. Ok (record s { seed = seed })) (number_back n there)
-    ∙ ap (λ o. once o n >>= λ seed. Ok (record s { seed = seed })) new
+    rw new (ap (λ r. (r >>= λ n. once None n) >>= λ seed. Ok (record s { seed = seed })) (number_back n there))
 
 -- all of them
 abbrev pub all_settings : Script → Settings

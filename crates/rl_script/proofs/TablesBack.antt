@@ -1,5 +1,5 @@
 -- The lines of the tables are read as the tables again.
-use Rattle.std.proofs.Common.{◌≡◌, ℕ, ◌+◌, ◌<◌, ◌≤◌, true, List, [], ◌∷◌, ◌++◌, length, map, get_or, Option, None, Some, Ok, Err, codes, refl, ap, sym, subst, ◌∙◌, arith, append-nil, length-append, if◌then◌else◌}
+use Rattle.std.proofs.Common.{◌≡◌, ℕ, ◌+◌, ◌<◌, ◌≤◌, true, List, [], ◌∷◌, ◌++◌, length, map, get_or, Option, None, Some, Result, Ok, Err, codes, refl, ap, sym, subst, ◌∙◌, arith, append-nil, length-append, if◌then◌else◌}
 use Rattle.std.specs.Fmt.{decimal}
 use Rattle.std.specs.Option.{option_map_or}
 use Rattle.std.specs.Str.{bytes_eq}
@@ -17,12 +17,12 @@ use Rattle.rl_events.proofs.ReadBack.{within_back}
 use Rattle.rl_script.specs.declared.draft.Draft.{Draft}
 use Rattle.rl_script.specs.declared.draft.Section.{Section}
 use Rattle.rl_script.specs.declared.draft.Section.TheVariants as section
-use Rattle.rl_script.specs.declared.fault.Problem.TheVariants.{Fault}
 use Rattle.rl_script.specs.declared.line.LineKind.TheVariants as line
+use Rattle.rl_events.specs.declared.kind.Kind.{Kind}
 use Rattle.rl_script.specs.Problems.{as_problem}
 use Rattle.rl_script.specs.Sections.{is_before_requests}
 use Rattle.rl_script.specs.Printed.{table_line}
-use Rattle.rl_script.specs.Read.{declared, table_joined, with_table}
+use Rattle.rl_script.specs.Read.{read_kind, read_table, with_table}
 use Rattle.rl_script.proofs.LinesBack.{reads, kind_line, no_lines, one_line}
 
 -- a table whose name is its own is none of those before it
@@ -46,17 +46,26 @@ new_name front x more all = go (table_named x.name front) refl
 none_refused : (name : List ℕ) (size : ℕ) (tables : List Table) → table_named name tables ≡ None → length tables < 16 → record_count tables + size ≤ 65536 → refusal name size tables ≡ None
 none_refused name size tables new few fits = grind (arith, nat_tests)
 
-joined_back : (draft : Draft) (name : List ℕ) (size columns : ℕ) → table_named name draft.schema ≡ None → length draft.schema < 16 → record_count draft.schema + size ≤ 65536 → table_joined draft name size columns ≡ Ok (with_table draft name size columns)
-joined_back draft name size columns new few fits = rw (none_refused name size draft.schema new few fits, table_joined) refl
+-- the draft with one more table
+abbrev declared_with : Draft → Table → Draft
+declared_with draft table = record draft { section = section.Tables; schema = draft.schema ++ table ∷ [] }
+
+joined_back : (draft : Draft) (table : Table) → table_named table.name draft.schema ≡ None → length draft.schema < 16 → record_count draft.schema + table.size ≤ 65536 → with_table draft table ≡ Ok (declared_with draft table)
+joined_back draft table new few fits = rw (none_refused table.name table.size draft.schema new few fits, with_table) refl
+
+line_back : (table : Table) → IsTable table → read_table table.name (decimal table.size) (decimal table.columns) ≡ Ok table
+unfolding read_table
+line_back table ok =
+    ap (λ b. (if b then Ok table.name else Err Name) >>= λ name. within 1 65536 (decimal table.size) >>= λ size. within 1 4 (decimal table.columns) >>= λ columns. made name size columns) ok.named
+    ∙ ap (λ r. r >>= λ size. within 1 4 (decimal table.columns) >>= λ columns. made table.name size columns) (within_back 1 65536 table.size ok.some_keys ok.few_keys (omega (arith, ok.few_keys)))
+    ∙ ap (λ r. r >>= λ columns. made table.name table.size columns) (within_back 1 4 table.columns ok.some_columns ok.few_columns (omega (arith, ok.few_columns)))
+  where
+    made : List ℕ → ℕ → ℕ → Result Table Kind
+    made name size columns = Ok (record { name = name; size = size; columns = columns })
 
 declared_back : (draft : Draft) (table : Table) → IsTable table → table_named table.name draft.schema ≡ None → length draft.schema < 16 → record_count draft.schema + table.size ≤ 65536
-    → declared draft table.name (decimal table.size) (decimal table.columns) ≡ Ok (with_table draft table.name table.size table.columns)
-unfolding declared
-declared_back draft table ok new few fits =
-    ap (λ b. (if b then Ok table.name else Err (Fault Name)) >>= λ name. as_problem (within 1 65536 (decimal table.size)) >>= λ size. as_problem (within 1 4 (decimal table.columns)) >>= λ columns. table_joined draft name size columns) ok.named
-    ∙ ap (λ r. as_problem r >>= λ size. as_problem (within 1 4 (decimal table.columns)) >>= λ columns. table_joined draft table.name size columns) (within_back 1 65536 table.size ok.some_keys ok.few_keys (omega (arith, ok.few_keys)))
-    ∙ ap (λ r. as_problem r >>= λ columns. table_joined draft table.name table.size columns) (within_back 1 4 table.columns ok.some_columns ok.few_columns (omega (arith, ok.few_columns)))
-    ∙ joined_back draft table.name table.size table.columns new few fits
+    → read_kind draft line.Table (table.name ∷ decimal table.size ∷ decimal table.columns ∷ []) ≡ Ok (declared_with draft table)
+declared_back draft table ok new few fits = ap (λ r. as_problem r >>= with_table draft) (line_back table ok) ∙ joined_back draft table new few fits
 
 -- what the lines of some tables are read as
 pub record TablesRead (draft : Draft) (tables : List Table) : Type 0 where
@@ -79,7 +88,7 @@ tables_back draft (x ∷ tables) all early whole ok =
     let one : IsTable x = subst IsTable (element draft.schema x tables) (parts.each (length draft.schema) x (omega (arith, length-append draft.schema (x ∷ tables)))) in
     let few : length draft.schema < 16 = omega (arith, parts.few, length-append draft.schema (x ∷ tables)) in
     let fits : record_count draft.schema + x.size ≤ 65536 = omega (arith, parts.records, sum_by-append (λ (t : Table). t.size) draft.schema (x ∷ tables), sum_by-cons (λ (t : Table). t.size) x tables) in
-    let next : Draft = with_table draft x.name x.size x.columns in
+    let next : Draft = declared_with draft x in
     let rest = tables_back next tables all refl (append_assoc draft.schema (x ∷ []) tables ∙ whole) ok in
     record {
       at = rest.at;

@@ -23,7 +23,7 @@ use Rattle.rl_script.specs.declared.line.LineKind.TheVariants as line
 use Rattle.rl_script.specs.Problems.{as_problem}
 use Rattle.rl_script.specs.Sections.{is_events}
 use Rattle.rl_script.specs.Printed.{list_lines, op_words, txn_lines}
-use Rattle.rl_script.specs.Read.{txn_begun, txn_ended, in_order, with_op}
+use Rattle.rl_script.specs.Read.{txn_ended, in_order, read_kind, with_op}
 use Rattle.rl_script.proofs.FitsLemmas.{sum-with_last}
 use Rattle.rl_script.proofs.LinesBack.{reads, kind_line, more_lines, no_lines, one_line}
 use Rattle.rl_script.proofs.OpsBack.{op_line_back}
@@ -53,8 +53,7 @@ abbrev requested : Draft → ℕ → List Op → Draft
 requested draft worker txn = record draft { section = section.Transactions; lists = with_last draft.lists (worker - 1) txn }
 
 begun_back : (draft : Draft) (worker : ℕ) → 1 ≤ worker → worker ≤ length draft.lists → length draft.lists ≤ 16 → sum_by (λ l. length l) draft.lists < 8192
-    → txn_begun draft (decimal worker) ≡ Ok (record draft { section = section.Transactions; current = opened worker [] })
-unfolding txn_begun
+    → read_kind draft line.Txn (decimal worker ∷ []) ≡ Ok (record draft { section = section.Transactions; current = opened worker [] })
 begun_back draft worker some there few room =
     let more : (sum_by (λ l. length l) draft.lists == 8192) ≡ false = grind (arith, nat_tests) in
     ap (λ r. as_problem r >>= λ worker. if sum_by (λ l. length l) draft.lists == 8192 then Err (Limit limits.Requests 8192) else Ok (record draft { section = section.Transactions; current = opened worker [] })) (within_back 1 (length draft.lists) worker some there (omega arith))

@@ -1,5 +1,5 @@
 -- What the functions of the reader answer, beside what reading says.
-use Rattle.std.specs.Prelude.{◌≡◌, ℕ, Option, Some, Result, Err}
+use Rattle.std.specs.Prelude.{◌≡◌, ℕ, Result, Err}
 use Rattle.rl_script.specs.declared.fault.Problem.{Problem}
 use Rattle.rl_script.specs.declared.fault.Problem.TheVariants.{Fault, Limit}
 use Rattle.rl_script.specs.declared.fault.LineError.{LineError}
@@ -11,11 +11,6 @@ use Rattle.rl_script.specs.declared.fault.ParseError.TheVariants as parse
 abbrev pub Fails : {A : Type 0} → LineError → Result A Problem → Type 0
 Fails errors.Memory read = Unit {0}
 Fails (errors.Problem problem) read = read ≡ Err problem
-
--- the same of what is wrong with one line
-abbrev pub Finds : LineError → Option Problem → Type 0
-Finds errors.Memory found = Unit {0}
-Finds (errors.Problem problem) found = found ≡ Some problem
 
 -- the error of a text whose line of a number has this one
 abbrev pub error_at : ℕ → LineError → ParseError

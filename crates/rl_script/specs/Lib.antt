@@ -1,6 +1,7 @@
 pub mod Answers
 pub mod Drafts
 pub mod Fits
+pub mod LimitNames
 pub mod Lines
 pub mod Operations
 pub mod Printed

@@ -1,7 +1,7 @@
 -- What the line is that a word begins.
-use Rattle.std.specs.Prelude.{ℕ, List, Option, Some, None, option_map, if◌then◌else◌, codes}
+use Rattle.std.specs.Prelude.{ℕ, List, [], ◌∷◌, Option, Some, None, option_map, if◌then◌else◌, codes}
 use Rattle.std.specs.Option.{option_or}
-use Rattle.std.specs.Str.{bytes_eq}
+use Rattle.rl_text.specs.Meanings.{meaning}
 use Rattle.rl_events.specs.Events.{event_word}
 use Rattle.rl_script.specs.declared.draft.Section.{Section}
 use Rattle.rl_script.specs.declared.line.OpWord.{OpWord}
@@ -13,20 +13,15 @@ use Rattle.rl_script.specs.Settings.{setting_word}
 
 -- which op a first word begins
 abbrev pub op_word : List ℕ → Option OpWord
-op_word word =
-    if bytes_eq word (codes "set") then Some ops.Set else (if bytes_eq word (codes "add") then Some ops.Add
-    else (if bytes_eq word (codes "sub") then Some ops.Sub else (if bytes_eq word (codes "mul") then Some ops.Mul
-    else (if bytes_eq word (codes "get") then Some ops.Get else (if bytes_eq word (codes "has") then Some ops.Has
-    else (if bytes_eq word (codes "put") then Some ops.Put else (if bytes_eq word (codes "del") then Some ops.Del
-    else (if bytes_eq word (codes "scan") then Some ops.Scan else (if bytes_eq word (codes "need") then Some ops.Need
-    else (if bytes_eq word (codes "skip") then Some ops.Skip else (if bytes_eq word (codes "out") then Some ops.Out else None)))))))))))
+op_word = meaning {A = OpWord}
+    ((codes "set", ops.Set) ∷ (codes "add", ops.Add) ∷ (codes "sub", ops.Sub) ∷ (codes "mul", ops.Mul)
+    ∷ (codes "get", ops.Get) ∷ (codes "has", ops.Has) ∷ (codes "put", ops.Put) ∷ (codes "del", ops.Del)
+    ∷ (codes "scan", ops.Scan) ∷ (codes "need", ops.Need) ∷ (codes "skip", ops.Skip) ∷ (codes "out", ops.Out) ∷ [])
 
 -- the lines of which there is one form each
 abbrev pub plain_kind : List ℕ → Option LineKind
-plain_kind word =
-    if bytes_eq word (codes "table") then Some Table else (if bytes_eq word (codes "row") then Some Row
-    else (if bytes_eq word (codes "txn") then Some Txn else (if bytes_eq word (codes "end") then Some End
-    else (if bytes_eq word (codes "events") then Some Events else None))))
+plain_kind = meaning {A = LineKind}
+    ((codes "table", Table) ∷ (codes "row", Row) ∷ (codes "txn", Txn) ∷ (codes "end", End) ∷ (codes "events", Events) ∷ [])
 
 -- an event's word begins a line in the section of events alone
 abbrev pub event_kind : Section → List ℕ → Option LineKind

@@ -3,10 +3,10 @@ use Rattle.std.specs.Prelude.{ℕ, ◌-◌, ◌&&◌, List, [], ◌∷◌, lengt
 use Rattle.rl_base.specs.Results.{◌>>=◌}
 use Rattle.rl_value.specs.Tables.{Table, table_named, columns_of}
 use Rattle.rl_txn.specs.declared.op.Op.{Op}
-use Rattle.rl_txn.specs.declared.op.Operand.{Operand}
 use Rattle.rl_txn.specs.declared.op.Op.TheVariants as op
 use Rattle.rl_events.specs.declared.kind.Kind.{Kind}
 use Rattle.rl_events.specs.declared.kind.Kind.TheVariants.{Count, UnknownTable}
+use Rattle.rl_events.specs.Forms.{Reading, one_word, two_words, three_words, four_words}
 use Rattle.rl_events.specs.Words.{within}
 use Rattle.rl_script.specs.declared.line.OpWord.{OpWord}
 use Rattle.rl_script.specs.declared.line.OpWord.TheVariants as word
@@ -31,92 +31,25 @@ each_word read (word ∷ words) = do
   xs ← each_word read words
   Ok (x ∷ xs)
 
--- `set D A`
-unfoldable pub set_of : List ℕ → List ℕ → Result Op Kind
-set_of d a = do
-  d ← register d
-  a ← operand a
-  Ok (op.Set d a)
-
--- `D A B`, a register and two operands, of `add`, `sub` and `mul`
-unfoldable pub terms_of : List ℕ → List ℕ → List ℕ → Result (ℕ × Operand × Operand) Kind
-terms_of d a b = do
-  d ← register d
-  a ← operand a
-  b ← operand b
-  Ok (d, a, b)
-
--- `get T K C D`: C a column of the table
-unfoldable pub get_of : List Table → List ℕ → List ℕ → List ℕ → List ℕ → Result Op Kind
-get_of tables table key column d = do
-  t ← known_table tables table
-  key ← operand key
-  c ← within 0 (columns_of tables t - 1) column
-  d ← register d
-  Ok (op.Get t key c d)
-
--- `has T K D`
-unfoldable pub has_of : List Table → List ℕ → List ℕ → List ℕ → Result Op Kind
-has_of tables table key d = do
-  t ← known_table tables table
-  key ← operand key
-  d ← register d
-  Ok (op.Has t key d)
-
--- `put T K A0` up to the last column
-unfoldable pub put_of : List Table → List ℕ → List ℕ → List (List ℕ) → Result Op Kind
-put_of tables table key values = do
-  t ← table_for tables table (length values)
-  key ← operand key
-  values ← each_word operand values
-  Ok (op.Put t key values)
-
--- `del T K`
-unfoldable pub del_of : List Table → List ℕ → List ℕ → Result Op Kind
-del_of tables table key = do
-  t ← known_table tables table
-  key ← operand key
-  Ok (op.Del t key)
-
--- `scan T K N C D`: C a column of the table
-unfoldable pub scan_of : List Table → List ℕ → List ℕ → List ℕ → List ℕ → List ℕ → Result Op Kind
-scan_of tables table key count column d = do
-  t ← known_table tables table
-  key ← operand key
-  n ← within 1 256 count
-  c ← within 0 (columns_of tables t - 1) column
-  d ← register d
-  Ok (op.Scan t key n c d)
-
--- `need A REL B`
-unfoldable pub need_of : List ℕ → List ℕ → List ℕ → Result Op Kind
-need_of a rel b = do
-  a ← operand a
-  rel ← relation rel
-  b ← operand b
-  Ok (op.Need a rel b)
-
--- `skip A REL B N`
-unfoldable pub skip_of : List ℕ → List ℕ → List ℕ → List ℕ → Result Op Kind
-skip_of a rel b count = do
-  a ← operand a
-  rel ← relation rel
-  b ← operand b
-  n ← within 1 64 count
-  Ok (op.Skip a rel b n)
+-- a word that must be a column of a table
+abbrev pub column : List Table → ℕ → Reading ℕ
+column tables t = within 0 (columns_of tables t - 1)
 
 -- the op of a line, without its first word: so many words, and each what it must be
 abbrev pub read_op : List Table → OpWord → List (List ℕ) → Result Op Kind
-read_op tables word.Set (d ∷ a ∷ []) = set_of d a
-read_op tables word.Add (d ∷ a ∷ b ∷ []) = terms_of d a b >>= λ t. Ok (op.Add t.0 t.1 t.2)
-read_op tables word.Sub (d ∷ a ∷ b ∷ []) = terms_of d a b >>= λ t. Ok (op.Sub t.0 t.1 t.2)
-read_op tables word.Mul (d ∷ a ∷ b ∷ []) = terms_of d a b >>= λ t. Ok (op.Mul t.0 t.1 t.2)
-read_op tables word.Get (table ∷ key ∷ column ∷ d ∷ []) = get_of tables table key column d
-read_op tables word.Has (table ∷ key ∷ d ∷ []) = has_of tables table key d
-read_op tables word.Put (table ∷ key ∷ values) = put_of tables table key values
-read_op tables word.Del (table ∷ key ∷ []) = del_of tables table key
-read_op tables word.Scan (table ∷ key ∷ count ∷ column ∷ d ∷ []) = scan_of tables table key count column d
-read_op tables word.Need (a ∷ rel ∷ b ∷ []) = need_of a rel b
-read_op tables word.Skip (a ∷ rel ∷ b ∷ count ∷ []) = skip_of a rel b count
-read_op tables word.Out (a ∷ []) = operand a >>= λ a. Ok (op.Out a)
+read_op tables word.Set words = two_words op.Set register operand words
+read_op tables word.Add words = three_words op.Add register operand operand words
+read_op tables word.Sub words = three_words op.Sub register operand operand words
+read_op tables word.Mul words = three_words op.Mul register operand operand words
+read_op tables word.Get (table ∷ key ∷ c ∷ d ∷ []) =
+    known_table tables table >>= λ t. three_words (op.Get t) operand (column tables t) register (key ∷ c ∷ d ∷ [])
+read_op tables word.Has words = three_words op.Has (known_table tables) operand register words
+read_op tables word.Put (table ∷ key ∷ values) =
+    table_for tables table (length values) >>= λ t. operand key >>= λ key. each_word operand values >>= λ values. Ok (op.Put t key values)
+read_op tables word.Del words = two_words op.Del (known_table tables) operand words
+read_op tables word.Scan (table ∷ key ∷ count ∷ c ∷ d ∷ []) =
+    known_table tables table >>= λ t. four_words (op.Scan t) operand (within 1 256) (column tables t) register (key ∷ count ∷ c ∷ d ∷ [])
+read_op tables word.Need words = three_words op.Need operand relation operand words
+read_op tables word.Skip words = four_words op.Skip operand relation operand (within 1 64) words
+read_op tables word.Out words = one_word op.Out operand words
 read_op tables word words = Err Count

@@ -1,5 +1,6 @@
 -- What a script says, line by line, or what is wrong with its first wrong line.
-use Rattle.std.specs.Prelude.{ℕ, ◌+◌, ◌-◌, Bool, false, not, ◌&&◌, List, [], ◌∷◌, ◌++◌, length, slice_index, sum_by, replicate, ◌==◌, nat_lt, Option, Some, None, is_some, unwrap_or, Result, Ok, Err, if◌then◌else◌, codes}
+use Rattle.std.specs.Prelude.{ℕ, ◌+◌, ◌-◌, Bool, false, not, ◌&&◌, List, [], ◌∷◌, ◌++◌, length, slice_index, sum_by, replicate, ◌==◌, nat_lt, Some, None, is_some, unwrap_or, Result, Ok, Err, if◌then◌else◌, codes}
+use Rattle.std.specs.Option.{option_map_or}
 use Rattle.std.specs.Str.{bytes_eq}
 use Rattle.std.specs.FinMap as map
 use Rattle.rl_base.specs.Lists.{with_last}
@@ -8,23 +9,22 @@ use Rattle.rl_base.specs.declared.limit.LimitName.TheVariants as limits
 use Rattle.rl_base.specs.Results.{◌>>=◌}
 use Rattle.rl_value.specs.Names.{is_name}
 use Rattle.rl_value.specs.Declare.{refusal}
-use Rattle.rl_value.specs.Tables.{size_of}
+use Rattle.rl_value.specs.Tables.{Table, size_of}
 use Rattle.rl_value.specs.declared.schema.DeclareError.TheVariants.{DuplicateTable, TooManyTables}
 use Rattle.rl_txn.specs.declared.op.Op.{Op}
 use Rattle.rl_text.specs.Text.{lines_of, words_of, is_printable}
 use Rattle.rl_events.specs.Events.{read_event}
 use Rattle.rl_events.specs.Fits.{count_of, elections_of}
 use Rattle.rl_events.specs.Words.{number, within}
+use Rattle.rl_events.specs.declared.kind.Kind.{Kind}
 use Rattle.rl_events.specs.declared.event.Event.{Event}
-use Rattle.rl_events.specs.declared.line.EventWord.{EventWord}
 use Rattle.rl_events.specs.declared.kind.Kind.TheVariants.{Byte, Header, Word, Order, Count, Name, Duplicate, Unended}
 use Rattle.rl_script.specs.declared.draft.Section.TheVariants as section
 use Rattle.rl_script.specs.declared.draft.Draft.{Draft}
 use Rattle.rl_script.specs.declared.script.Script.{Script}
-use Rattle.rl_script.specs.declared.settings.SettingWord.{SettingWord}
+use Rattle.rl_script.specs.declared.settings.Settings.{Settings}
 use Rattle.rl_script.specs.declared.fault.Problem.{Problem}
 use Rattle.rl_script.specs.declared.fault.Problem.TheVariants.{Fault, Limit}
-use Rattle.rl_script.specs.declared.line.OpWord.{OpWord}
 use Rattle.rl_script.specs.declared.line.LineKind.{LineKind}
 use Rattle.rl_script.specs.declared.line.LineKind.TheVariants as line
 use Rattle.rl_script.specs.Problems.{as_problem}
@@ -33,33 +33,26 @@ use Rattle.rl_script.specs.Lines.{line_kind}
 use Rattle.rl_script.specs.Operations.{table_for, each_word, read_op}
 use Rattle.rl_script.specs.Settings.{no_settings, nodes_of, workers_of, with_setting}
 
--- a setting: each worker has an empty list
-unfoldable pub setting : Draft → SettingWord → List ℕ → Result Draft Problem
-setting draft word value = do
-  settings ← as_problem (with_setting draft.settings word value)
-  Ok (record draft { settings = settings; lists = replicate (workers_of settings) [] })
+-- the draft with other settings: each worker has an empty list
+abbrev pub with_settings : Draft → Settings → Draft
+with_settings draft settings = record draft { settings = settings; lists = replicate (workers_of settings) [] }
 
--- the tables with one more
-abbrev pub with_table : Draft → List ℕ → (size columns : ℕ) → Draft
-with_table draft name size columns =
-    record draft { section = section.Tables; schema = draft.schema ++ record { name = name; size = size; columns = columns } ∷ [] }
+-- `table NAME SIZE COLUMNS`
+unfoldable pub read_table : (name size columns : List ℕ) → Result Table Kind
+read_table name size columns = do
+  name ← if is_name name then Ok name else Err Name
+  size ← within 1 RECORDS size
+  columns ← within 1 4 columns
+  Ok (record { name = name; size = size; columns = columns })
 
 -- a new table joins the others, unless something keeps it from being declared
-abbrev pub table_joined : Draft → List ℕ → (size columns : ℕ) → Result Draft Problem
-table_joined draft name size columns = elim (refusal name size draft.schema) [
-  | None ↦ Ok (with_table draft name size columns)
+abbrev pub with_table : Draft → Table → Result Draft Problem
+with_table draft table = elim (refusal table.name table.size draft.schema) [
+  | None ↦ Ok (record draft { section = section.Tables; schema = draft.schema ++ table ∷ [] })
   | Some DuplicateTable ↦ Err (Fault Duplicate)
   | Some TooManyTables ↦ Err (Limit limits.Tables TABLES)
   | Some e ↦ Err (Limit limits.Records RECORDS)
 ]
-
--- `table NAME SIZE COLUMNS`
-unfoldable pub declared : Draft → List ℕ → List ℕ → List ℕ → Result Draft Problem
-declared draft name size columns = do
-  name ← if is_name name then Ok name else Err (Fault Name)
-  size ← as_problem (within 1 RECORDS size)
-  columns ← as_problem (within 1 4 columns)
-  table_joined draft name size columns
 
 -- `row NAME KEY C0` up to the last column: a row that is not given before, KEY below the table's size
 unfoldable pub row_joined : Draft → List ℕ → List ℕ → List (List ℕ) → Result Draft Problem
@@ -70,19 +63,16 @@ row_joined draft name key cells = do
   if is_some (map.get draft.rows (t, key)) then Err (Fault Duplicate)
       else Ok (record draft { section = section.Tables; rows = map.insert draft.rows (t, key) cells })
 
--- `txn W`: the next request of one of the lists
-unfoldable pub txn_begun : Draft → List ℕ → Result Draft Problem
-txn_begun draft worker = do
-  worker ← as_problem (within 1 (length draft.lists) worker)
-  if sum_by length draft.lists == REQUESTS then Err (Limit limits.Requests REQUESTS)
-      else Ok (record draft { section = section.Transactions; current = Some (record { worker = worker; txn = [] }) })
+-- a worker's next request is open
+abbrev pub with_txn : Draft → (worker : ℕ) → Result Draft Problem
+with_txn draft worker =
+    if sum_by length draft.lists == REQUESTS then Err (Limit limits.Requests REQUESTS)
+    else Ok (record draft { section = section.Transactions; current = Some (record { worker = worker; txn = [] }) })
 
 -- `end`: the open transaction becomes the last request of its list
 abbrev pub txn_ended : Draft → Draft
-txn_ended draft = elim draft.current [
-  | None ↦ draft
-  | Some current ↦ record draft { lists = with_last draft.lists (current.worker - 1) current.txn; current = None }
-]
+txn_ended draft =
+    option_map_or (λ current. record draft { lists = with_last draft.lists (current.worker - 1) current.txn; current = None }) draft.current draft
 
 -- an op becomes the last of the open transaction
 abbrev pub with_op : Draft → Op → Result Draft Problem
@@ -92,12 +82,6 @@ with_op draft op = elim draft.current [
       else Ok (record draft { current = Some (record current { txn = current.txn ++ op ∷ [] }) })
 ]
 
--- the line of an op, without its first word
-unfoldable pub op_joined : Draft → OpWord → List (List ℕ) → Result Draft Problem
-op_joined draft word words = do
-  op ← as_problem (read_op draft.schema word words)
-  with_op draft op
-
 -- one more event: an election too many comes first, then an event too many
 abbrev pub scheduled : List Event → Event → Result (List Event) Problem
 scheduled events event =
@@ -105,12 +89,9 @@ scheduled events event =
     else (if nat_lt EVENTS (sum_by count_of events + count_of event) then Err (Limit limits.Events EVENTS)
     else Ok (events ++ event ∷ []))
 
--- the line of an event, without its first word
-unfoldable pub event_joined : Draft → EventWord → List (List ℕ) → Result Draft Problem
-event_joined draft word words = do
-  event ← as_problem (read_event (nodes_of draft.settings) (workers_of draft.settings) word words)
-  events ← scheduled draft.events event
-  Ok (record draft { events = events })
+-- the draft with one more event
+abbrev pub with_event : Draft → Event → Result Draft Problem
+with_event draft event = scheduled draft.events event >>= λ events. Ok (record draft { events = events })
 
 -- whether a line of a kind can stand here: settings, then tables and rows, then transactions, then the events;
 -- ops and `end` inside a transaction, and nothing else there
@@ -126,14 +107,15 @@ in_order draft (line.Event word) = is_events draft.section
 
 -- a line of a kind, without its first word
 abbrev pub read_kind : Draft → LineKind → List (List ℕ) → Result Draft Problem
-read_kind draft (line.Setting word) (value ∷ []) = setting draft word value
-read_kind draft line.Table (name ∷ size ∷ columns ∷ []) = declared draft name size columns
+read_kind draft (line.Setting word) (value ∷ []) = as_problem (with_setting draft.settings word value) >>= λ s. Ok (with_settings draft s)
+read_kind draft line.Table (name ∷ size ∷ columns ∷ []) = as_problem (read_table name size columns) >>= with_table draft
 read_kind draft line.Row (name ∷ key ∷ cells) = row_joined draft name key cells
-read_kind draft line.Txn (worker ∷ []) = txn_begun draft worker
+read_kind draft line.Txn (worker ∷ []) = as_problem (within 1 (length draft.lists) worker) >>= with_txn draft
 read_kind draft line.End [] = Ok (txn_ended draft)
-read_kind draft (line.Op word) words = op_joined draft word words
+read_kind draft (line.Op word) words = as_problem (read_op draft.schema word words) >>= with_op draft
 read_kind draft line.Events [] = Ok (record draft { section = section.Events })
-read_kind draft (line.Event word) words = event_joined draft word words
+read_kind draft (line.Event word) words =
+    as_problem (read_event (nodes_of draft.settings) (workers_of draft.settings) word words) >>= with_event draft
 read_kind draft kind words = Err (Fault Count)
 
 -- the words of a line: nothing, a comment, or a line of a kind that can stand here
@@ -150,13 +132,10 @@ read_words draft (word ∷ words) =
 unfoldable pub read_line : Draft → List ℕ → Result Draft Problem
 read_line draft line = if is_printable line then read_words draft (words_of line) else Err (Fault Byte)
 
--- no transaction is open where the lines end
-abbrev pub closed : ℕ → Draft → Result Draft (ℕ × Problem)
-closed number draft = if is_some draft.current then Err (number, Fault Unended) else Ok draft
-
--- the lines from the one of a number on: what they say, or the first that something is wrong with
+-- the lines from the one of a number on: what they say, or the first that something is wrong with; no transaction is
+-- open where they end
 unfoldable pub read_lines : ℕ → Draft → List (List ℕ) → Result Draft (ℕ × Problem)
-read_lines number draft [] = closed number draft
+read_lines number draft [] = if is_some draft.current then Err (number, Fault Unended) else Ok draft
 read_lines number draft (line ∷ lines) = elim (read_line draft line) [
   | Ok next ↦ read_lines (number + 1) next lines
   | Err problem ↦ Err (number, problem)
@@ -167,26 +146,17 @@ abbrev pub is_header : List (List ℕ) → Bool
 is_header (name ∷ version ∷ []) = bytes_eq name (codes "rolis") && bytes_eq version (codes "1")
 is_header words = false
 
--- what is wrong with the first line
-unfoldable pub header_fault : List ℕ → Option Problem
-header_fault line =
-    if is_printable line then (if is_header (words_of line) then None else Some (Fault Header))
-    else Some (Fault Byte)
-
 -- nothing is set or declared yet, and the one list is empty
 abbrev pub opening_draft : Draft
 opening_draft =
     record { section = section.Settings; settings = no_settings; schema = []; rows = map.empty; lists = [] ∷ []; current = None; events = [] }
 
--- the lines after the first, unless something is wrong with it
-abbrev pub after_header : Option Problem → List (List ℕ) → Result Draft (ℕ × Problem)
-after_header None lines = read_lines 2 opening_draft lines
-after_header (Some problem) lines = Err (1, problem)
-
--- all lines of a text
+-- all lines of a text, of which the first is `rolis 1`
 abbrev pub read_text : List (List ℕ) → Result Draft (ℕ × Problem)
 read_text [] = Err (1, Fault Header)
-read_text (first ∷ lines) = after_header (header_fault first) lines
+read_text (first ∷ lines) =
+    if not (is_printable first) then Err (1, Fault Byte)
+    else (if is_header (words_of first) then read_lines 2 opening_draft lines else Err (1, Fault Header))
 
 -- the script of what the lines say; settings that are not given have their default values
 abbrev pub script_of : Draft → Script

@@ -1,10 +1,11 @@
 -- What the settings of a script are.
 use Rattle.std.specs.Prelude.{ℕ, List, [], ◌∷◌, ◌++◌, length, ◌==◌, Option, Some, None, unwrap_or, Result, Ok, Err, if◌then◌else◌, codes}
-use Rattle.std.specs.Str.{bytes_eq}
+use Rattle.rl_text.specs.Meanings.{meaning}
 use Rattle.rl_base.specs.Results.{◌>>=◌}
 use Rattle.rl_base.specs.declared.limit.TheConstants.{NODES, WORKERS}
 use Rattle.rl_events.specs.declared.kind.Kind.{Kind}
 use Rattle.rl_events.specs.declared.kind.Kind.TheVariants.{Duplicate}
+use Rattle.rl_events.specs.Forms.{Reading}
 use Rattle.rl_events.specs.Words.{number, within}
 use Rattle.rl_script.specs.declared.script.TheConstants.{MOST_STOPS}
 use Rattle.rl_script.specs.declared.settings.Settings.{Settings}
@@ -13,10 +14,8 @@ use Rattle.rl_script.specs.declared.settings.SettingWord.TheVariants as word
 
 -- which setting a first word begins
 abbrev pub setting_word : List ℕ → Option SettingWord
-setting_word w =
-    if bytes_eq w (codes "nodes") then Some word.Nodes else (if bytes_eq w (codes "workers") then Some word.Workers
-    else (if bytes_eq w (codes "batch") then Some word.Batch else (if bytes_eq w (codes "loss") then Some word.Loss
-    else (if bytes_eq w (codes "seed") then Some word.Seed else (if bytes_eq w (codes "stop") then Some word.Stop else None)))))
+setting_word = meaning {A = SettingWord}
+    ((codes "nodes", word.Nodes) ∷ (codes "workers", word.Workers) ∷ (codes "batch", word.Batch) ∷ (codes "loss", word.Loss) ∷ (codes "seed", word.Seed) ∷ (codes "stop", word.Stop) ∷ [])
 
 -- no setting is given yet
 abbrev pub no_settings : Settings
@@ -35,9 +34,9 @@ abbrev pub once : {A : Type 0} → Option A → A → Result (Option A) Kind
 once None x = Ok (Some x)
 once (Some y) x = Err Duplicate
 
--- the value of a setting in its range, which was not given before
-abbrev pub given : (low high : ℕ) → Option ℕ → List ℕ → Result (Option ℕ) Kind
-given low high before word = within low high word >>= λ n. once before n
+-- the value of a setting, which was not given before
+abbrev pub given : Reading ℕ → Option ℕ → List ℕ → Result (Option ℕ) Kind
+given read before word = read word >>= λ n. once before n
 
 -- one more stop
 abbrev pub one_more : List ℕ → ℕ → Result (List ℕ) Kind
@@ -45,15 +44,9 @@ one_more stops d = if length stops == MOST_STOPS then Err Duplicate else Ok (sto
 
 -- the settings with one more of them
 unfoldable pub with_setting : Settings → SettingWord → List ℕ → Result Settings Kind
-with_setting s word.Nodes w = given 1 NODES s.nodes w >>= λ nodes. Ok (record s { nodes = nodes })
-with_setting s word.Workers w = given 1 WORKERS s.workers w >>= λ workers. Ok (record s { workers = workers })
-with_setting s word.Batch w = given 1 64 s.batch w >>= λ batch. Ok (record s { batch = batch })
-with_setting s word.Loss w = given 0 999 s.loss w >>= λ loss. Ok (record s { loss = loss })
-with_setting s word.Seed w = do
-  n ← number w
-  seed ← once s.seed n
-  Ok (record s { seed = seed })
-with_setting s word.Stop w = do
-  d ← within 1 1000000 w
-  stops ← one_more s.stops d
-  Ok (record s { stops = stops })
+with_setting s word.Nodes w = given (within 1 NODES) s.nodes w >>= λ nodes. Ok (record s { nodes = nodes })
+with_setting s word.Workers w = given (within 1 WORKERS) s.workers w >>= λ workers. Ok (record s { workers = workers })
+with_setting s word.Batch w = given (within 1 64) s.batch w >>= λ batch. Ok (record s { batch = batch })
+with_setting s word.Loss w = given (within 0 999) s.loss w >>= λ loss. Ok (record s { loss = loss })
+with_setting s word.Seed w = given number s.seed w >>= λ seed. Ok (record s { seed = seed })
+with_setting s word.Stop w = (within 1 1000000 w >>= one_more s.stops) >>= λ stops. Ok (record s { stops = stops })

@@ -1,6 +1,6 @@
 -- What words must be: registers, operands, relations.
-use Rattle.std.specs.Prelude.{ℕ, List, slice_index, drop, ◌==◌, option_map, ok_or, Result, Ok, Err, if◌then◌else◌, codes}
-use Rattle.std.specs.Str.{bytes_eq}
+use Rattle.std.specs.Prelude.{ℕ, List, [], ◌∷◌, slice_index, drop, ◌==◌, option_map, ok_or, Result, Ok, Err, if◌then◌else◌, codes}
+use Rattle.rl_text.specs.Meanings.{meaning}
 use Rattle.rl_txn.specs.declared.op.Operand.{Operand}
 use Rattle.rl_txn.specs.declared.op.Operand.TheVariants.{Reg, Num}
 use Rattle.rl_txn.specs.declared.op.Rel.{Rel}
@@ -24,7 +24,5 @@ operand word = elim (register word) [
 
 -- a word that must be a relation
 abbrev pub relation : List ℕ → Result Rel Kind
-relation word =
-    if bytes_eq word (codes "eq") then Ok Eq else (if bytes_eq word (codes "ne") then Ok Ne
-    else (if bytes_eq word (codes "lt") then Ok Lt else (if bytes_eq word (codes "le") then Ok Le
-    else (if bytes_eq word (codes "gt") then Ok Gt else (if bytes_eq word (codes "ge") then Ok Ge else Err Relation)))))
+relation word = ok_or (meaning {A = Rel}
+    ((codes "eq", Eq) ∷ (codes "ne", Ne) ∷ (codes "lt", Lt) ∷ (codes "le", Le) ∷ (codes "gt", Gt) ∷ (codes "ge", Ge) ∷ []) word) Relation

@@ -1,6 +1,6 @@
 //! What the lines of a script say so far.
 
-ghost use Rattle.std.specs.Prelude.{◌≡◌, ◌≤◌, ◌<◌, [], All, MatchResult, None, Ok, IfOk, OnOk, true, false, length, map, vec_len};
+ghost use Rattle.std.specs.Prelude.{◌≡◌, ◌≤◌, ◌<◌, [], ◌∷◌, All, MatchResult, None, Ok, Err, IfOk, OnOk, true, false, length, map, vec_len};
 ghost use Rattle.rl_value.specs.Names.{is_name};
 ghost use Rattle.rl_text.specs.Numbers.{IsNumber};
 ghost use Rattle.rl_events.specs.Words.{number};
@@ -9,7 +9,7 @@ ghost use Rattle.rl_script.specs.Problems.{as_problem};
 ghost use Rattle.rl_script.specs.Drafts.{DraftFits};
 ghost use Rattle.rl_script.specs.Sections.{is_before_requests, is_events, is_settings};
 ghost use Rattle.rl_script.specs.Operations.{each_word};
-ghost use Rattle.rl_script.specs.Read.{setting, table_joined, declared, row_joined, txn_begun, txn_ended, op_joined, event_joined, in_order, read_kind, read_words, read_line, opening_draft};
+ghost use Rattle.rl_script.specs.Read.{with_table, row_joined, txn_ended, in_order, read_kind, read_words, read_line, opening_draft};
 
 use crate::fault::LineError;
 use crate::line::{LineKind, OpWord, line_kind};
@@ -95,13 +95,12 @@ impl Draft {
     }
 
     /// A setting: each worker has an empty list.
-    #[tactic(auto, unfolding(crate::specs::Read::setting))]
     fn setting(&mut self, alloc: Global, word: SettingWord, value: &str) -> Result<(), LineError>
         requires fits { DraftFits self.old }
         requires first { is_settings self.old.section ≡ true }
         ensures setting { MatchResult result
-            (λ _. setting self.old word value.now ≡ Ok self.new)
-            (λ e. Fails e (setting self.old word value.now)) }
+            (λ _. read_kind self.old (LineKind.Setting word) (value.now ∷ []) ≡ Ok self.new)
+            (λ e. Fails e (read_kind self.old (LineKind.Setting word) (value.now ∷ []))) }
         ensures fits { IfOk result (λ _. DraftFits self.new) }
     {
         self.settings.set(word, value)?;
@@ -119,8 +118,8 @@ impl Draft {
         requires fits { DraftFits self.old }
         requires first { is_before_requests self.old.section ≡ true }
         ensures joined { MatchResult result
-            (λ _. table_joined self.old name.now size columns ≡ Ok self.new)
-            (λ e. Fails e (table_joined self.old name.now size columns)) }
+            (λ _. with_table self.old (record { name = name.now; size = size; columns = columns }) ≡ Ok self.new)
+            (λ e. Fails e (with_table self.old (record { name = name.now; size = size; columns = columns }))) }
         ensures fits { IfOk result (λ _. DraftFits self.new) }
     {
         self.section = Section::Tables;
@@ -134,7 +133,7 @@ impl Draft {
     }
 
     /// `table NAME SIZE COLUMNS`
-    #[tactic(auto, unfolding(crate::specs::Read::declared))]
+    #[tactic(auto, unfolding(crate::specs::Read::read_table))]
     fn table(
         &mut self,
         alloc: Global,
@@ -145,8 +144,8 @@ impl Draft {
         requires fits { DraftFits self.old }
         requires first { is_before_requests self.old.section ≡ true }
         ensures declared { MatchResult result
-            (λ _. declared self.old name.now size.now columns.now ≡ Ok self.new)
-            (λ e. Fails e (declared self.old name.now size.now columns.now)) }
+            (λ _. read_kind self.old LineKind.Table (name.now ∷ size.now ∷ columns.now ∷ []) ≡ Ok self.new)
+            (λ e. Fails e (read_kind self.old LineKind.Table (name.now ∷ size.now ∷ columns.now ∷ []))) }
         ensures fits { IfOk result (λ _. DraftFits self.new) }
     {
         if !is_name(name) {
@@ -179,14 +178,13 @@ impl Draft {
     }
 
     /// `txn W`
-    #[tactic(auto, unfolding(crate::specs::Read::txn_begun))]
     fn begin(&mut self, alloc: Global, worker: &str) -> Result<(), LineError>
         requires fits { DraftFits self.old }
         requires rest { self.old.current ≡ None }
         requires no_events { is_events self.old.section ≡ false }
         ensures begun { MatchResult result
-            (λ _. txn_begun self.old worker.now ≡ Ok self.new)
-            (λ e. Fails e (txn_begun self.old worker.now)) }
+            (λ _. read_kind self.old LineKind.Txn (worker.now ∷ []) ≡ Ok self.new)
+            (λ e. Fails e (read_kind self.old LineKind.Txn (worker.now ∷ []))) }
         ensures fits { IfOk result (λ _. DraftFits self.new) }
     {
         let worker = within(1, self.lists.workers() as u32, worker)?;
@@ -215,12 +213,11 @@ impl Draft {
     }
 
     /// The line of an op.
-    #[tactic(auto, unfolding(crate::specs::Read::op_joined))]
     fn op(&mut self, alloc: Global, word: OpWord, words: &[&str]) -> Result<(), LineError>
         requires fits { DraftFits self.old }
         ensures op { MatchResult result
-            (λ _. op_joined self.old word (map (λ w. w.now) words.now) ≡ Ok self.new)
-            (λ e. Fails e (op_joined self.old word (map (λ w. w.now) words.now))) }
+            (λ _. read_kind self.old (LineKind.Op word) (map (λ w. w.now) words.now) ≡ Ok self.new)
+            (λ e. Fails e (read_kind self.old (LineKind.Op word) (map (λ w. w.now) words.now))) }
         ensures fits { IfOk result (λ _. DraftFits self.new) }
     {
         let op = read_op(alloc, &self.schema, word, words)?;
@@ -245,13 +242,12 @@ impl Draft {
     }
 
     /// The line of an event.
-    #[tactic(auto, unfolding(crate::specs::Read::event_joined))]
     fn event(&mut self, word: EventWord, words: &[&str]) -> Result<(), LineError>
         requires fits { DraftFits self.old }
         requires last { is_events self.old.section ≡ true }
         ensures event { MatchResult result
-            (λ _. event_joined self.old word (map (λ w. w.now) words.now) ≡ Ok self.new)
-            (λ e. Fails e (event_joined self.old word (map (λ w. w.now) words.now))) }
+            (λ _. read_kind self.old (LineKind.Event word) (map (λ w. w.now) words.now) ≡ Ok self.new)
+            (λ e. Fails e (read_kind self.old (LineKind.Event word) (map (λ w. w.now) words.now))) }
         ensures fits { IfOk result (λ _. DraftFits self.new) }
     {
         let nodes = self.settings.nodes();

@@ -2,6 +2,7 @@
 
 ghost use Rattle.std.specs.Prelude.{◌≡◌};
 ghost use Rattle.rl_script.specs.Answers.{error_at};
+ghost use Rattle.rl_script.specs.LimitNames.{limit_name};
 
 use rl_base::limit::LimitName;
 use rl_base::memory::Memory;
@@ -93,7 +94,7 @@ pub enum ParseError {
         kind: Kind,
     },
     /// The first line with which something is wrong passes a limit.
-    #[error("line {line}: limit {name:?} {limit}")]
+    #[error("line {line}: limit {word} {limit}", word = name_of_limit(*.name))]
     Limit {
         line: u32,
         name: LimitName,
@@ -111,6 +112,17 @@ impl From<Memory> for ParseError {
     ghost from_gives = { λ _ e. e ≡ Memory };
 
     fn from(_e: Memory) -> ParseError {
+        ParseError::Memory
+    }
+}
+
+impl From<AllocError> for ParseError {
+    ghost use Rattle.std.specs.Prelude.{◌≡◌};
+    ghost use Rattle.rl_script.specs.declared.fault.ParseError.TheVariants.{Memory};
+
+    ghost from_gives = { λ _ e. e ≡ Memory };
+
+    fn from(_e: AllocError) -> ParseError {
         ParseError::Memory
     }
 }
@@ -134,5 +146,24 @@ impl LineError {
             }
             LineError::Memory => ParseError::Memory,
         }
+    }
+}
+
+/// The name of a limit of the language, as it is printed.
+pub fn name_of_limit(name: LimitName) -> &'static str
+    ensures { result.now ≡ limit_name name }
+{
+    match name {
+        LimitName::Nodes => "nodes",
+        LimitName::Workers => "workers",
+        LimitName::Tables => "tables",
+        LimitName::Records => "records",
+        LimitName::Requests => "requests",
+        LimitName::Ops => "ops",
+        LimitName::Events => "events",
+        LimitName::Elections => "elections",
+        LimitName::Slots => "slots",
+        LimitName::Bytes => "bytes",
+        LimitName::Asks => "asks",
     }
 }

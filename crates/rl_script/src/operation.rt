@@ -1,9 +1,9 @@
 //! The lines of a transaction.
 
 ghost use Rattle.std.specs.Prelude.{◌≡◌, ◌≢◌, ◌<◌, ◌≤◌, List, [], ◌∷◌, All, MatchResult, Ok, IfOk, length, map};
-ghost use Rattle.rl_value.specs.Tables.{Table, columns_of};
+ghost use Rattle.rl_value.specs.Tables.{columns_of};
 ghost use Rattle.rl_txn.specs.Fits.{OperandFits, OpFits};
-ghost use Rattle.rl_script.specs.Operations.{known_table, table_for, each_word, set_of, terms_of, get_of, has_of, put_of, del_of, scan_of, need_of, skip_of, read_op};
+ghost use Rattle.rl_script.specs.Operations.{known_table, table_for, each_word, read_op};
 ghost use Rattle.rl_script.specs.Answers.{Fails};
 ghost use Rattle.rl_script.specs.Problems.{as_problem};
 ghost use Rattle.rl_script.specs.Words.{operand};
@@ -59,35 +59,9 @@ fn operands(alloc: Global, words: &[&str]) -> Result<Operands, LineError>
     Ok(operands)
 }
 
-/// `set D A`
-#[tactic(auto, unfolding(crate::specs::Operations::set_of))]
-fn set(d: &str, a: &str) -> Result<Op, Kind>
-    ensures op { result ≡ set_of d.now a.now }
-    ensures fits { (tables : List Table) → IfOk result (λ op. OpFits tables op) }
-{
-    let d = register(d)?;
-    let a = operand(a)?;
-    Ok(Op::Set { d, a })
-}
-
-/// `D A B`, a register and two operands.
-#[tactic(auto, unfolding(crate::specs::Operations::terms_of))]
-fn terms(d: &str, a: &str, b: &str) -> Result<(u32, Operand, Operand), Kind>
-    ensures terms { result ≡ terms_of d.now a.now b.now }
-    ensures register { IfOk result (λ t. t.0 < 16) }
-    ensures first { IfOk result (λ t. OperandFits t.1) }
-    ensures second { IfOk result (λ t. OperandFits t.2) }
-{
-    let d = register(d)?;
-    let a = operand(a)?;
-    let b = operand(b)?;
-    Ok((d, a, b))
-}
-
 /// `get T K C D`
-#[tactic(auto, unfolding(crate::specs::Operations::get_of))]
 fn get(schema: &Schema, table: &str, key: &str, column: &str, d: &str) -> Result<Op, Kind>
-    ensures op { result ≡ get_of schema.now table.now key.now column.now d.now }
+    ensures op { result ≡ read_op schema.now OpWord.Get (table.now ∷ key.now ∷ column.now ∷ d.now ∷ []) }
     ensures fits { IfOk result (λ op. OpFits schema.now op) }
 {
     let table = known_table(schema, table)?;
@@ -102,20 +76,7 @@ fn get(schema: &Schema, table: &str, key: &str, column: &str, d: &str) -> Result
     })
 }
 
-/// `has T K D`
-#[tactic(auto, unfolding(crate::specs::Operations::has_of))]
-fn has(schema: &Schema, table: &str, key: &str, d: &str) -> Result<Op, Kind>
-    ensures op { result ≡ has_of schema.now table.now key.now d.now }
-    ensures fits { IfOk result (λ op. OpFits schema.now op) }
-{
-    let table = known_table(schema, table)?;
-    let key = operand(key)?;
-    let d = register(d)?;
-    Ok(Op::Has { table, key, d })
-}
-
 /// `put T K A0` up to the last column
-#[tactic(auto, unfolding(crate::specs::Operations::put_of))]
 fn put(
     alloc: Global,
     schema: &Schema,
@@ -124,8 +85,8 @@ fn put(
     values: &[&str],
 ) -> Result<Op, LineError>
     ensures op { MatchResult result
-        (λ op. put_of schema.now table.now key.now (map (λ w. w.now) values.now) ≡ Ok op)
-        (λ e. Fails e (as_problem (put_of schema.now table.now key.now (map (λ w. w.now) values.now)))) }
+        (λ op. read_op schema.now OpWord.Put (table.now ∷ key.now ∷ map (λ w. w.now) values.now) ≡ Ok op)
+        (λ e. Fails e (as_problem (read_op schema.now OpWord.Put (table.now ∷ key.now ∷ map (λ w. w.now) values.now)))) }
     ensures fits { IfOk result (λ op. OpFits schema.now op) }
 {
     let table = table_for(schema, table, values.len())?;
@@ -134,19 +95,7 @@ fn put(
     Ok(Op::Put { table, key, values })
 }
 
-/// `del T K`
-#[tactic(auto, unfolding(crate::specs::Operations::del_of))]
-fn del(schema: &Schema, table: &str, key: &str) -> Result<Op, Kind>
-    ensures op { result ≡ del_of schema.now table.now key.now }
-    ensures fits { IfOk result (λ op. OpFits schema.now op) }
-{
-    let table = known_table(schema, table)?;
-    let key = operand(key)?;
-    Ok(Op::Del { table, key })
-}
-
 /// `scan T K N C D`
-#[tactic(auto, unfolding(crate::specs::Operations::scan_of))]
 fn scan(
     schema: &Schema,
     table: &str,
@@ -155,7 +104,7 @@ fn scan(
     column: &str,
     d: &str,
 ) -> Result<Op, Kind>
-    ensures op { result ≡ scan_of schema.now table.now key.now count.now column.now d.now }
+    ensures op { result ≡ read_op schema.now OpWord.Scan (table.now ∷ key.now ∷ count.now ∷ column.now ∷ d.now ∷ []) }
     ensures fits { IfOk result (λ op. OpFits schema.now op) }
 {
     let table = known_table(schema, table)?;
@@ -170,31 +119,6 @@ fn scan(
         column,
         d,
     })
-}
-
-/// `need A REL B`
-#[tactic(auto, unfolding(crate::specs::Operations::need_of))]
-fn need(a: &str, rel: &str, b: &str) -> Result<Op, Kind>
-    ensures op { result ≡ need_of a.now rel.now b.now }
-    ensures fits { (tables : List Table) → IfOk result (λ op. OpFits tables op) }
-{
-    let a = operand(a)?;
-    let rel = relation(rel)?;
-    let b = operand(b)?;
-    Ok(Op::Need { a, rel, b })
-}
-
-/// `skip A REL B N`
-#[tactic(auto, unfolding(crate::specs::Operations::skip_of))]
-fn skip(a: &str, rel: &str, b: &str, count: &str) -> Result<Op, Kind>
-    ensures op { result ≡ skip_of a.now rel.now b.now count.now }
-    ensures fits { (tables : List Table) → IfOk result (λ op. OpFits tables op) }
-{
-    let a = operand(a)?;
-    let rel = relation(rel)?;
-    let b = operand(b)?;
-    let count = within(1, 64, count)?;
-    Ok(Op::Skip { a, rel, b, count })
 }
 
 /// The op of the line that begins with an op's word. `words` are those after it.
@@ -255,8 +179,14 @@ fn op_of_two(schema: &Schema, word: OpWord, a: &str, b: &str) -> Result<Op, Kind
     ensures fits { IfOk result (λ op. OpFits schema.now op) }
 {
     match word {
-        OpWord::Set => set(a, b),
-        OpWord::Del => del(schema, a, b),
+        OpWord::Set => Ok(Op::Set {
+            d: register(a)?,
+            a: operand(b)?,
+        }),
+        OpWord::Del => Ok(Op::Del {
+            table: known_table(schema, a)?,
+            key: operand(b)?,
+        }),
         _ => Err(Kind::Count),
     }
 }
@@ -268,20 +198,31 @@ fn op_of_three(schema: &Schema, word: OpWord, a: &str, b: &str, c: &str) -> Resu
     ensures fits { IfOk result (λ op. OpFits schema.now op) }
 {
     match word {
-        OpWord::Add => {
-            let (d, a, b) = terms(a, b, c)?;
-            Ok(Op::Add { d, a, b })
-        }
-        OpWord::Sub => {
-            let (d, a, b) = terms(a, b, c)?;
-            Ok(Op::Sub { d, a, b })
-        }
-        OpWord::Mul => {
-            let (d, a, b) = terms(a, b, c)?;
-            Ok(Op::Mul { d, a, b })
-        }
-        OpWord::Has => has(schema, a, b, c),
-        OpWord::Need => need(a, b, c),
+        OpWord::Add => Ok(Op::Add {
+            d: register(a)?,
+            a: operand(b)?,
+            b: operand(c)?,
+        }),
+        OpWord::Sub => Ok(Op::Sub {
+            d: register(a)?,
+            a: operand(b)?,
+            b: operand(c)?,
+        }),
+        OpWord::Mul => Ok(Op::Mul {
+            d: register(a)?,
+            a: operand(b)?,
+            b: operand(c)?,
+        }),
+        OpWord::Has => Ok(Op::Has {
+            table: known_table(schema, a)?,
+            key: operand(b)?,
+            d: register(c)?,
+        }),
+        OpWord::Need => Ok(Op::Need {
+            a: operand(a)?,
+            rel: relation(b)?,
+            b: operand(c)?,
+        }),
         _ => Err(Kind::Count),
     }
 }
@@ -294,7 +235,12 @@ fn op_of_four(schema: &Schema, word: OpWord, a: &str, b: &str, c: &str, d: &str)
 {
     match word {
         OpWord::Get => get(schema, a, b, c, d),
-        OpWord::Skip => skip(a, b, c, d),
+        OpWord::Skip => Ok(Op::Skip {
+            a: operand(a)?,
+            rel: relation(b)?,
+            b: operand(c)?,
+            count: within(1, 64, d)?,
+        }),
         _ => Err(Kind::Count),
     }
 }

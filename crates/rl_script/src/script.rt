@@ -1,12 +1,11 @@
 //! A script, and how it is read.
 
-ghost use Rattle.std.specs.Prelude.{◌≡◌, ◌<◌, ◌-◌, ◌^◌, None, Ok, IfOk, MatchResult, length, map};
+ghost use Rattle.std.specs.Prelude.{◌≡◌, ◌<◌, ◌-◌, ◌^◌, ℕ, List, ◌∷◌, Ok, IfOk, MatchResult, length, map};
 ghost use Rattle.rl_text.specs.Text.{lines_of};
-ghost use Rattle.rl_script.specs.Answers.{Finds};
 ghost use Rattle.rl_script.specs.Problems.{FailsAt};
 ghost use Rattle.rl_script.specs.Drafts.{DraftFits};
 ghost use Rattle.rl_script.specs.Fits.{ScriptFits};
-ghost use Rattle.rl_script.specs.Read.{is_header, header_fault, read_text, read, script_of};
+ghost use Rattle.rl_script.specs.Read.{is_header, read_lines, read_text, read, script_of};
 
 use crate::draft::Draft;
 use crate::fault::{LineError, ParseError};
@@ -81,10 +80,7 @@ fn read_lines(alloc: Global, text: &[u8]) -> Result<Draft, ParseError>
         return Err(LineError::from(Kind::Header).at(1));
     }
     let (first, mut rest) = first_line(text);
-    if let Err(e) = header(alloc, first) {
-        return Err(e.at(1));
-    }
-    let mut draft = Draft::new(alloc)?;
+    let mut draft = begin(alloc, first)?;
     let mut number = 1;
     'lines: while !rest.is_empty() {
         let (line, after) = first_line(rest);
@@ -100,19 +96,21 @@ fn read_lines(alloc: Global, text: &[u8]) -> Result<Draft, ParseError>
     Ok(draft)
 }
 
-/// Whether a line is the first of a script.
-#[tactic(auto, unfolding(crate::specs::Read::header_fault))]
-fn header(alloc: Global, line: &[u8]) -> Result<(), LineError>
-    ensures { MatchResult result (λ _. header_fault line.now ≡ None) (λ e. Finds e (header_fault line.now)) }
+/// The draft behind the first line of a script.
+fn begin(alloc: Global, line: &[u8]) -> Result<Draft, ParseError>
+    ensures begun { (lines : List (List ℕ)) → MatchResult result
+        (λ draft. read_text (line.now ∷ lines) ≡ read_lines 2 draft lines)
+        (λ e. FailsAt e (read_text (line.now ∷ lines))) }
+    ensures fits { IfOk result (λ draft. DraftFits draft) }
 {
     let Some(text) = printable(line) else {
-        return Err(Kind::Byte.into());
+        return Err(LineError::from(Kind::Byte).at(1));
     };
     let words = words(alloc, text)?;
     if !is_header(words.as_slice()) {
-        return Err(Kind::Header.into());
+        return Err(LineError::from(Kind::Header).at(1));
     }
-    Ok(())
+    Ok(Draft::new(alloc)?)
 }
 
 /// Whether these are the words of a script's first line.

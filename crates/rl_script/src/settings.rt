@@ -3,6 +3,7 @@
 ghost use Rattle.std.specs.Prelude.{◌≡◌, MatchResult, Some, Ok, IfOk};
 ghost use Rattle.std.specs.Option.{IsSomeAnd};
 ghost use Rattle.rl_text.specs.Numbers.{IsWithin};
+ghost use Rattle.rl_events.specs.Words.{within};
 ghost use Rattle.rl_script.specs.Answers.{Fails};
 ghost use Rattle.rl_script.specs.Problems.{as_problem};
 ghost use Rattle.rl_script.specs.Drafts.{SettingsFit};
@@ -65,7 +66,7 @@ fn once<T: Drop>(before: Option<T>, value: T) -> Result<Option<T>, Kind>
 
 /// The value of a setting in its range, which was not given before.
 fn given(low: u32, high: u32, before: Option<u32>, word: &str) -> Result<Option<u32>, Kind>
-    ensures given { result ≡ given low high before word.now }
+    ensures given { result ≡ given (within low high) before word.now }
     ensures within { IfOk result (λ after. IsSomeAnd after (λ n. IsWithin low high n)) }
 {
     once(before, within(low, high, word)?)

@@ -1,3 +1,4 @@
+pub mod Meanings
 pub mod Numbers
 pub mod Printed
 pub mod Text
