@@ -1,6 +1,6 @@
 -- What is true of streams after any events, whatever is sent, lost, sent again or delayed, and whichever nodes crash, return
 -- or are lost.
-use Rattle.std.specs.Prelude.{◌≡◌, ℕ, List, [], ◌∷◌, ◌++◌, ◌<◌, ◌≤◌, length, take, slice_index_or, IsTrue, Contains}
+use Rattle.std.specs.Prelude.{◌≡◌, ℕ, None, List, [], ◌∷◌, ◌++◌, ◌<◌, ◌≤◌, length, take, slice_index_or, IsTrue, Contains}
 use Rattle.rl_base.specs.Epochs.{owner_of}
 use Rattle.rl_base.specs.Lists.{IsPrefix}
 use Rattle.rl_paxos.specs.Acceptors.{Acceptor, kept_ballot, kept_log}
@@ -128,6 +128,18 @@ LeaderLogsGrow = (run : Stretch) (epoch s : ℕ) (log now : Log)
 abbrev pub OwnersLead : Type 0
 OwnersLead = (g : Cluster) (events : List StreamEvent) (a epoch : ℕ)
     → ((streams_after g events).node a).role ≡ Leads epoch → owner_of epoch g.nodes ≡ a
+
+-- a candidate of the cluster, which stands for an epoch of its own that has no leader yet
+pub record StandsFirst (g : Cluster) (w : StreamWorld) (a : ℕ) (c : Candidate) : Type 0 where
+  pub own : owner_of c.epoch g.nodes ≡ a
+  pub nodes_are : c.nodes ≡ g.nodes
+  pub need_is : c.need ≡ g.first_quorum
+  pub no_term : w.terms c.epoch ≡ None
+
+-- so no epoch is led twice
+abbrev pub CandidatesStandFirst : Type 0
+CandidatesStandFirst = (g : Cluster) (events : List StreamEvent) (a : ℕ) (c : Candidate)
+    → ((streams_after g events).node a).role ≡ Stands c → StandsFirst g (streams_after g events) a c
 
 -- ---- what is sent again ----
 

@@ -1,7 +1,7 @@
 //! Laws of streams alone, whatever is sent, lost, sent again or delayed, and whichever nodes crash, return or are lost: the
 //! contract of each function is the law.
 
-ghost use Rattle.rl_election.specs.Laws.{LaterLogsBeginChosen, InitialLogsStand, ChosenGrows, KeptIsAdopted, NoneAtBallotZero, BallotsBelowPromise, InitialLogsHaveOrigins, LeadersBeganWithInitialLogs, LeaderLogsGrow, OwnersLead, PreparesWereSent, SyncsWereSent, AcceptsWereSent, AcknowledgedIsChosen, SomeIsChosen, SomeIsLongest, LongestGrows, ProposalIsChosen, ProposalIsCarried};
+ghost use Rattle.rl_election.specs.Laws.{LaterLogsBeginChosen, InitialLogsStand, ChosenGrows, KeptIsAdopted, NoneAtBallotZero, BallotsBelowPromise, InitialLogsHaveOrigins, LeadersBeganWithInitialLogs, LeaderLogsGrow, OwnersLead, CandidatesStandFirst, PreparesWereSent, SyncsWereSent, AcceptsWereSent, AcknowledgedIsChosen, SomeIsChosen, SomeIsLongest, LongestGrows, ProposalIsChosen, ProposalIsCarried};
 
 /// After any list of events, what is chosen at an epoch is a prefix of the initial log of each later epoch that has one.
 /// An initial log stands once it is made, so this holds when it is made and at every later moment.
@@ -20,12 +20,14 @@ pub fn adoption()
 {}
 
 /// After any list of events, an initial log is a log that was adopted at an earlier epoch, or nothing, and then the open
-/// mark. The log of a leader begins with its initial log and only grows, and a leader owns its epoch.
+/// mark. The log of a leader begins with its initial log and only grows, and a leader owns its epoch. A candidate owns
+/// the epoch that it stands for, which has had no leader: so no epoch is led twice.
 pub fn leader_logs()
     ensures origins { InitialLogsHaveOrigins }
     ensures began { LeadersBeganWithInitialLogs }
     ensures grow { LeaderLogsGrow }
     ensures owners { OwnersLead }
+    ensures candidates { CandidatesStandFirst }
 {}
 
 /// After any list of events, what a candidate or a leader would send again was sent before: the Prepare of a candidate, a

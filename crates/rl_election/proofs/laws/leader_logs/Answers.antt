@@ -4,7 +4,7 @@ use Rattle.rl_election.specs.World.{StreamWorld, stream_of}
 use Rattle.rl_election.specs.StreamEvents.{streams_after}
 use Rattle.rl_election.specs.Chosen.{initial_log, BeganWith}
 use Rattle.rl_election.specs.Laws.{at_end, world_of}
-use Rattle.rl_election.proofs.Inv.{log_at, RoleOk}
+use Rattle.rl_election.proofs.Inv.{log_at, RoleOk, StandsOk}
 use Rattle.rl_election.proofs.Leaders.{LeadingOk, leading_of}
 use Rattle.rl_election.proofs.Origins.{origin}
 use Rattle.rl_election.proofs.Stays.{inv_of, stretch_stays}
@@ -43,3 +43,10 @@ returns-clause-owners c = λ g events a e is.
     let w : StreamWorld = streams_after g events in
     let ok : RoleOk g w a (w.node a).role = (inv_of g events).role_ok a in
     rw is at ok
+
+pub returns-clause-candidates : goal.returns-clause-candidates
+returns-clause-candidates c = λ g events a k is.
+    let w : StreamWorld = streams_after g events in
+    let ok : RoleOk g w a (w.node a).role = (inv_of g events).role_ok a in
+    let stands : StandsOk g w a k = rw is at ok in
+    record { own = stands.own; nodes_are = stands.nodes_is; need_is = stands.need_is; no_term = stands.unborn }
