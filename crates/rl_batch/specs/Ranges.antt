@@ -3,6 +3,7 @@ use Rattle.std.specs.Prelude.{◌≡◌, ℕ, ◌<◌, ◌≤◌, ◌^◌, ◌-�
 use Rattle.rl_base.specs.declared.limit.TheConstants.{WORKERS, TABLES, RECORDS, REQUESTS, OPS}
 use Rattle.rl_base.specs.declared.stamp.Stamp.{Stamp}
 use Rattle.rl_txn.specs.Fits.{IsPlaceBelow}
+pub use Rattle.rl_txn.specs.Words.{AreWords, WriteHasWords, ItemHasWords}
 use Rattle.rl_txn.specs.declared.write.End.{End}
 use Rattle.rl_txn.specs.declared.write.End.TheVariants.{Done, Declined}
 use Rattle.rl_txn.specs.declared.write.Write.{Write}
@@ -66,19 +67,6 @@ abbrev pub BatchInRange : Batch → Type 0
 BatchInRange (Items xs) = ItemsInRange xs
 BatchInRange (Idle s) = MarkInRange 2 (2 ^ 40 - 1) s
 BatchInRange (Opened s) = MarkInRange 1 1 s
-
--- numbers of eight bytes
-abbrev pub AreWords : List ℕ → Type 0
-AreWords xs = All (λ x. x < 2 ^ 64) xs
-
--- the columns of a write are such numbers
-abbrev pub WriteHasWords : Write → Type 0
-WriteHasWords w = IfSome w.row AreWords
-
--- and so are the outs and the columns of an item
-pub record ItemHasWords (x : Item) : Type 0 where
-  pub outs : AreWords x.reply.outs
-  pub writes : All WriteHasWords x.writes
 
 -- the outs and the columns are numbers of eight bytes, as they are in each value
 abbrev pub HasWords : Batch → Type 0

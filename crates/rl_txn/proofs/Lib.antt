@@ -4,3 +4,4 @@ pub mod Folds
 pub mod Known
 pub mod RowSets
 pub mod SerialLemmas
+pub mod Words

@@ -5,3 +5,4 @@ pub mod RowSets
 pub mod Run
 pub mod Serial
 pub mod Steps
+pub mod Words

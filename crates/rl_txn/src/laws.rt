@@ -1,10 +1,11 @@
 //! Laws of runs: the contract of each function is the law.
 
 ghost use Rattle.rl_txn.specs.Laws.{AnswersFit, SerialItemsFit, RowsGoOnFitting, SerialRowsFit};
+ghost use Rattle.rl_txn.specs.Words.{AnswersHaveWords, SerialItemsHaveWords, RowsKeepWords};
 
 /// What a transaction answers and writes: at most an output and a write for each op, an op of its own
-/// where it is declined, and then no writes; and writes that fit the tables, by rising place. The items of a
-/// serial list are such.
+/// where it is declined, and then no writes; and writes that fit the tables, by rising place. The
+/// items of a serial list are such.
 pub fn answers()
     ensures fit { AnswersFit }
     ensures items { SerialItemsFit }
@@ -14,4 +15,12 @@ pub fn answers()
 pub fn rows()
     ensures fit { RowsGoOnFitting }
     ensures serial { SerialRowsFit }
+{}
+
+/// Numbers of eight bytes in the rows give such numbers in what transactions answer and write, and in
+/// the rows after them.
+pub fn words()
+    ensures answers { AnswersHaveWords }
+    ensures items { SerialItemsHaveWords }
+    ensures rows { RowsKeepWords }
 {}

@@ -19,31 +19,32 @@ pub fn core_serial()
     ensures settled { SettledStays }
 {}
 
-/// One step of a worker adds the same item or none to what is decided and to what was made, an item or none to what has
-/// ended, and a refusal or none; it draws at most one stamp, and changes no other worker. What ended and was refused in it
-/// is what `Worker::step` tells.
+/// One step of a worker adds the same item or none to what is decided and to what was made, an item
+/// or none to what has ended, and a refusal or none; it draws at most one stamp, and changes no other
+/// worker. What ended and was refused in it is what `Worker::step` tells.
 pub fn one_step()
     ensures one { StepsAreOne }
     ensures tells { StepsTellNews }
 {}
 
-/// After any steps and idle draws the stamps are in the range of their epoch: from that of seq 2 up to the next, which is at
-/// most that of the end mark; what is decided was made, and as it is seen it is in the range of its batch. Each worker's decided items, by stamp, are those that have ended, in
-/// the order in which they did, and then the one that it installs.
+/// After any steps and idle draws the stamps are in the range of their epoch: from that of seq 2 up to
+/// the next, which is at most that of the end mark. What is decided was made, and as it is seen it is
+/// in the range of its batch. Each worker's decided items, by stamp, are those that have ended, in the
+/// order in which they did, and then the one that it installs.
 pub fn ranges()
     ensures in_range { StampsStayInRange }
     ensures items { ItemsStayInRange }
     ensures end_in_order { ItemsEndInOrder }
 {}
 
-/// The decided item of a worker's attempt that has not ended is the item that the worker installs in the core, as it is
-/// seen; elsewhere there is none.
+/// The decided item of a worker's attempt that has not ended is the item that the worker installs in
+/// the core, as it is seen; elsewhere there is none.
 pub fn open_items()
     ensures { OpenItemsAreInstalled }
 {}
 
-/// The stamps with which an epoch opens: one for each record, and below any that all items of the opening list are below.
-/// The records that such items write are there where they fit the tables.
+/// The stamps with which an epoch opens: one for each record, and below any that all items of the
+/// opening list are below. The records that such items write are there where they fit the tables.
 pub fn opening_stamps()
     ensures each { EachRecordOpens }
     ensures early { OpeningStampsAreEarly }
