@@ -1,5 +1,6 @@
 pub mod ExamplesElections
 pub mod ExamplesFaults
 pub mod ExamplesOneLeader
+pub mod Growing
 pub mod Listed
 pub mod Scripts
