@@ -1,3 +1,4 @@
+pub mod ExamplesBadMessages
 pub mod ExamplesElections
 pub mod ExamplesFaults
 pub mod ExamplesOneLeader
