@@ -5,3 +5,4 @@ pub mod ExamplesOneLeader
 pub mod Growing
 pub mod Listed
 pub mod Scripts
+pub mod Telling
