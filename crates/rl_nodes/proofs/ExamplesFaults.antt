@@ -1,5 +1,5 @@
 -- Scripts with losses, repeats, deposed leaders, crashes and returns, computed from the definitions.
-use Rattle.std.specs.Prelude.{◌≡◌, List, [], ◌∷◌, true, false, Some, refl}
+use Rattle.std.specs.Prelude.{List, [], ◌∷◌, true, false, refl}
 use Rattle.rl_base.specs.declared.refusal.Refusal.TheVariants.{Changed}
 use Rattle.rl_fields.specs.Fields.{whole, within, number, string, series, several}
 use Rattle.rl_batch.specs.Reading.{batch, rising, numbers, row, write, writes, item, items, mark}
@@ -10,7 +10,7 @@ use Rattle.rl_paxos.specs.declared.refused.Refused.TheVariants.{Promised}
 use Rattle.rl_events.specs.declared.event.Event.{Event}
 use Rattle.rl_events.specs.declared.event.Event.TheVariants as event
 use Rattle.rl_nodes.proofs.Listed.{ops_listed, read_listed}
-use Rattle.rl_nodes.proofs.Scripts.{Script, done, stream, up, down, lost, reported, computed, shown, left}
+use Rattle.rl_nodes.proofs.Scripts.{Script, done, stream, up, down, lost, ByWrites, Reports, computed, shown}
 use Rattle.rl_nodes.specs.declared.view.Role.TheVariants.{Follower, Candidate, Opening, Leading}
 use Rattle.rl_nodes.specs.World.{AttemptRefused, MessageDenied, LeaderOpened, NodeShown}
 
@@ -32,19 +32,22 @@ sent_again_events =
     event.Discard 17 ∷ event.Discard 18 ∷ event.All ∷ event.All ∷ event.Show 1 ∷ event.Tick 1 ∷
     event.All ∷ event.All ∷ event.All ∷ event.PlayAll 3 ∷ []
 
-sent_again : reported sent_again_script sent_again_events ≡ shown
+abbrev sent_again_report : ByWrites
+sent_again_report rows = shown
     (
     LeaderOpened 1 1 0
-    ∷ NodeShown (up 1 1 (Leading 1) (1, 1) true (stream 1 2 1 ∷ []) (left sent_again_script []))
+    ∷ NodeShown (up 1 1 (Leading 1) (1, 1) true (stream 1 2 1 ∷ []) (rows []))
     ∷ [])
     (done 1 2 1 1 [] ∷ [])
     (
-    up 1 1 (Leading 1) (1, 2) false (stream 1 2 2 ∷ []) (left sent_again_script [])
-    ∷ up 2 1 Follower (1, 2) false (stream 1 2 2 ∷ []) (left sent_again_script [])
-    ∷ up 3 1 Follower (1, 2) true (stream 1 2 2 ∷ []) (left sent_again_script (((0, 0), Some (5 ∷ [])) ∷ []))
+    up 1 1 (Leading 1) (1, 2) false (stream 1 2 2 ∷ []) (rows [])
+    ∷ up 2 1 Follower (1, 2) false (stream 1 2 2 ∷ []) (rows [])
+    ∷ up 3 1 Follower (1, 2) true (stream 1 2 2 ∷ []) (rows (((0, 0), 5 ∷ []) ∷ []))
     ∷ [])
+
+sent_again : Reports sent_again_script sent_again_events sent_again_report
 unfolding whole within number string series several batch rising numbers row write writes item items mark op_done ops_listed read_listed
-sent_again = computed sent_again_script sent_again_events _ refl
+sent_again = computed sent_again_script sent_again_events sent_again_report refl
 
 -- A Known that comes before the Accept of its last batch counts only what the log has; when it comes again it counts all.
 abbrev known_past_the_log_script : Script
@@ -64,19 +67,22 @@ known_past_the_log_events =
     event.Dlv 16 ∷ event.Dlv 18 ∷ event.Dlv 19 ∷ event.Dlv 20 ∷ event.Dlv 22 ∷ event.Show 2 ∷
     event.Dlv 17 ∷ event.Dlv 22 ∷ []
 
-known_past_the_log : reported known_past_the_log_script known_past_the_log_events ≡ shown
+abbrev known_past_the_log_report : ByWrites
+known_past_the_log_report rows = shown
     (
     LeaderOpened 1 1 0
-    ∷ NodeShown (up 2 1 Follower (1, 1) true (stream 1 1 1 ∷ []) (left known_past_the_log_script []))
+    ∷ NodeShown (up 2 1 Follower (1, 1) true (stream 1 1 1 ∷ []) (rows []))
     ∷ [])
     (done 1 2 1 1 [] ∷ [])
     (
-    up 1 1 (Leading 1) (0, 0) true (stream 1 2 0 ∷ []) (left known_past_the_log_script [])
-    ∷ up 2 1 Follower (1, 2) false (stream 1 2 2 ∷ []) (left known_past_the_log_script [])
-    ∷ up 3 1 Follower (0, 0) true (stream 1 2 0 ∷ []) (left known_past_the_log_script [])
+    up 1 1 (Leading 1) (0, 0) true (stream 1 2 0 ∷ []) (rows [])
+    ∷ up 2 1 Follower (1, 2) false (stream 1 2 2 ∷ []) (rows [])
+    ∷ up 3 1 Follower (0, 0) true (stream 1 2 0 ∷ []) (rows [])
     ∷ [])
+
+known_past_the_log : Reports known_past_the_log_script known_past_the_log_events known_past_the_log_report
 unfolding whole within number string series several batch rising numbers row write writes item items mark op_done ops_listed read_listed
-known_past_the_log = computed known_past_the_log_script known_past_the_log_events _ refl
+known_past_the_log = computed known_past_the_log_script known_past_the_log_events known_past_the_log_report refl
 
 -- A Promise that is delivered twice counts once.
 abbrev repeated_promise_script : Script
@@ -95,18 +101,19 @@ repeated_promise_events =
     event.Elect 1 ∷ event.Dlv 1 ∷ event.Dlv 4 ∷ event.Dlv 4 ∷ event.Show 1 ∷ event.Dlv 2 ∷
     event.Dlv 5 ∷ []
 
-repeated_promise : reported repeated_promise_script repeated_promise_events ≡ shown
-    (
-    NodeShown (up 1 1 (Candidate 1 1 2) (0, 0) true (stream 0 0 0 ∷ []) (left repeated_promise_script []))
-    ∷ [])
+abbrev repeated_promise_report : ByWrites
+repeated_promise_report rows = shown
+    (NodeShown (up 1 1 (Candidate 1 1 2) (0, 0) true (stream 0 0 0 ∷ []) (rows [])) ∷ [])
     []
     (
-    up 1 1 (Opening 1) (0, 0) true (stream 0 0 0 ∷ []) (left repeated_promise_script [])
-    ∷ up 2 1 Follower (0, 0) true (stream 0 0 0 ∷ []) (left repeated_promise_script [])
-    ∷ up 3 0 Follower (0, 0) true (stream 0 0 0 ∷ []) (left repeated_promise_script [])
+    up 1 1 (Opening 1) (0, 0) true (stream 0 0 0 ∷ []) (rows [])
+    ∷ up 2 1 Follower (0, 0) true (stream 0 0 0 ∷ []) (rows [])
+    ∷ up 3 0 Follower (0, 0) true (stream 0 0 0 ∷ []) (rows [])
     ∷ [])
+
+repeated_promise : Reports repeated_promise_script repeated_promise_events repeated_promise_report
 unfolding whole within number string series several batch rising numbers row write writes item items mark op_done ops_listed read_listed
-repeated_promise = computed repeated_promise_script repeated_promise_events _ refl
+repeated_promise = computed repeated_promise_script repeated_promise_events repeated_promise_report refl
 
 -- Two nodes stand at once. The earlier one still leads by the promises that it got, and every acceptor refuses its logs.
 abbrev two_candidates_script : Script
@@ -124,7 +131,8 @@ abbrev two_candidates_events : List Event
 two_candidates_events =
     event.Elect 1 ∷ event.Elect 2 ∷ event.All ∷ event.All ∷ event.All ∷ event.All ∷ []
 
-two_candidates : reported two_candidates_script two_candidates_events ≡ shown
+abbrev two_candidates_report : ByWrites
+two_candidates_report rows = shown
     (
     MessageDenied 2 2 (Promised 2)
     ∷ MessageDenied 12 1 (Promised 2)
@@ -134,12 +142,14 @@ two_candidates : reported two_candidates_script two_candidates_events ≡ shown
     ∷ [])
     []
     (
-    up 1 2 (Opening 1) (0, 0) true (stream 2 1 0 ∷ []) (left two_candidates_script [])
-    ∷ up 2 2 (Leading 2) (0, 0) true (stream 2 1 0 ∷ []) (left two_candidates_script [])
-    ∷ up 3 2 Follower (0, 0) true (stream 2 1 0 ∷ []) (left two_candidates_script [])
+    up 1 2 (Opening 1) (0, 0) true (stream 2 1 0 ∷ []) (rows [])
+    ∷ up 2 2 (Leading 2) (0, 0) true (stream 2 1 0 ∷ []) (rows [])
+    ∷ up 3 2 Follower (0, 0) true (stream 2 1 0 ∷ []) (rows [])
     ∷ [])
+
+two_candidates : Reports two_candidates_script two_candidates_events two_candidates_report
 unfolding whole within number string series several batch rising numbers row write writes item items mark op_done ops_listed read_listed
-two_candidates = computed two_candidates_script two_candidates_events _ refl
+two_candidates = computed two_candidates_script two_candidates_events two_candidates_report refl
 
 -- A node stands again while it is a candidate: promises of its earlier epoch are skipped.
 abbrev stands_again_script : Script
@@ -157,19 +167,22 @@ abbrev stands_again_events : List Event
 stands_again_events =
     event.Elect 1 ∷ event.Elect 1 ∷ event.All ∷ event.All ∷ event.All ∷ event.All ∷ []
 
-stands_again : reported stands_again_script stands_again_events ≡ shown
+abbrev stands_again_report : ByWrites
+stands_again_report rows = shown
     (
     MessageDenied 1 1 (Promised 4)
     ∷ LeaderOpened 4 1 0
     ∷ [])
     []
     (
-    up 1 4 (Leading 4) (0, 0) true (stream 4 1 0 ∷ []) (left stands_again_script [])
-    ∷ up 2 4 Follower (0, 0) true (stream 4 1 0 ∷ []) (left stands_again_script [])
-    ∷ up 3 4 Follower (0, 0) true (stream 4 1 0 ∷ []) (left stands_again_script [])
+    up 1 4 (Leading 4) (0, 0) true (stream 4 1 0 ∷ []) (rows [])
+    ∷ up 2 4 Follower (0, 0) true (stream 4 1 0 ∷ []) (rows [])
+    ∷ up 3 4 Follower (0, 0) true (stream 4 1 0 ∷ []) (rows [])
     ∷ [])
+
+stands_again : Reports stands_again_script stands_again_events stands_again_report
 unfolding whole within number string series several batch rising numbers row write writes item items mark op_done ops_listed read_listed
-stands_again = computed stands_again_script stands_again_events _ refl
+stands_again = computed stands_again_script stands_again_events stands_again_report refl
 
 -- A node that crashed and returns has its log and knows of nothing; a tick tells it again, and its replica begins at the opening rows.
 abbrev returned_node_script : Script
@@ -189,19 +202,22 @@ returned_node_events =
     event.All ∷ event.All ∷ event.All ∷ event.PlayAll 3 ∷ event.Crash 3 ∷ event.Back 3 ∷
     event.Show 3 ∷ event.Tick 1 ∷ event.All ∷ event.PlayAll 3 ∷ []
 
-returned_node : reported returned_node_script returned_node_events ≡ shown
+abbrev returned_node_report : ByWrites
+returned_node_report rows = shown
     (
     LeaderOpened 1 1 0
-    ∷ NodeShown (up 3 1 Follower (0, 0) true (stream 1 2 0 ∷ []) (left returned_node_script []))
+    ∷ NodeShown (up 3 1 Follower (0, 0) true (stream 1 2 0 ∷ []) (rows []))
     ∷ [])
     (done 1 2 1 1 [] ∷ [])
     (
-    up 1 1 (Leading 1) (1, 2) false (stream 1 2 2 ∷ []) (left returned_node_script [])
-    ∷ up 2 1 Follower (1, 2) false (stream 1 2 2 ∷ []) (left returned_node_script [])
-    ∷ up 3 1 Follower (1, 2) true (stream 1 2 2 ∷ []) (left returned_node_script (((0, 0), Some (5 ∷ [])) ∷ []))
+    up 1 1 (Leading 1) (1, 2) false (stream 1 2 2 ∷ []) (rows [])
+    ∷ up 2 1 Follower (1, 2) false (stream 1 2 2 ∷ []) (rows [])
+    ∷ up 3 1 Follower (1, 2) true (stream 1 2 2 ∷ []) (rows (((0, 0), 5 ∷ []) ∷ []))
     ∷ [])
+
+returned_node : Reports returned_node_script returned_node_events returned_node_report
 unfolding whole within number string series several batch rising numbers row write writes item items mark op_done ops_listed read_listed
-returned_node = computed returned_node_script returned_node_events _ refl
+returned_node = computed returned_node_script returned_node_events returned_node_report refl
 
 -- An item that was decided and not proposed is lost with its leader; the next leader runs the request again.
 abbrev pending_is_lost_script : Script
@@ -222,7 +238,8 @@ pending_is_lost_events =
     event.Step 2 1 5 ∷ event.Flush 2 1 ∷ event.All ∷ event.All ∷ event.All ∷ event.PlayAll 2 ∷
     []
 
-pending_is_lost : reported pending_is_lost_script pending_is_lost_events ≡ shown
+abbrev pending_is_lost_report : ByWrites
+pending_is_lost_report rows = shown
     (
     LeaderOpened 1 1 0
     ∷ LeaderOpened 2 2 0
@@ -230,11 +247,13 @@ pending_is_lost : reported pending_is_lost_script pending_is_lost_events ≡ sho
     (done 2 2 1 1 [] ∷ [])
     (
     down 1 1 (stream 1 1 0 ∷ [])
-    ∷ up 2 2 (Leading 2) (2, 2) true (stream 2 3 3 ∷ []) (left pending_is_lost_script (((0, 0), Some (5 ∷ [])) ∷ []))
-    ∷ up 3 2 Follower (2, 2) false (stream 2 3 3 ∷ []) (left pending_is_lost_script [])
+    ∷ up 2 2 (Leading 2) (2, 2) true (stream 2 3 3 ∷ []) (rows (((0, 0), 5 ∷ []) ∷ []))
+    ∷ up 3 2 Follower (2, 2) false (stream 2 3 3 ∷ []) (rows [])
     ∷ [])
+
+pending_is_lost : Reports pending_is_lost_script pending_is_lost_events pending_is_lost_report
 unfolding whole within number string series several batch rising numbers row write writes item items mark op_done ops_listed read_listed
-pending_is_lost = computed pending_is_lost_script pending_is_lost_events _ refl
+pending_is_lost = computed pending_is_lost_script pending_is_lost_events pending_is_lost_report refl
 
 -- An item that one acceptor took before its leader crashed is recovered, and released by the next leader, which opens with it.
 abbrev carried_over_script : Script
@@ -255,7 +274,8 @@ carried_over_events =
     event.Dlv 24 ∷ event.Dlv 26 ∷ event.Dlv 27 ∷ event.Dlv 28 ∷ event.Dlv 29 ∷ event.All ∷
     event.PlayAll 2 ∷ []
 
-carried_over : reported carried_over_script carried_over_events ≡ shown
+abbrev carried_over_report : ByWrites
+carried_over_report rows = shown
     (
     LeaderOpened 1 1 0
     ∷ LeaderOpened 2 2 1
@@ -264,11 +284,13 @@ carried_over : reported carried_over_script carried_over_events ≡ shown
     (done 1 2 1 1 [] ∷ [])
     (
     down 1 1 (stream 1 1 0 ∷ [])
-    ∷ up 2 2 (Leading 2) (2, 1) true (stream 2 3 3 ∷ []) (left carried_over_script (((0, 0), Some (5 ∷ [])) ∷ []))
-    ∷ up 3 2 Follower (2, 1) false (stream 2 3 3 ∷ []) (left carried_over_script [])
+    ∷ up 2 2 (Leading 2) (2, 1) true (stream 2 3 3 ∷ []) (rows (((0, 0), 5 ∷ []) ∷ []))
+    ∷ up 3 2 Follower (2, 1) false (stream 2 3 3 ∷ []) (rows [])
     ∷ [])
+
+carried_over : Reports carried_over_script carried_over_events carried_over_report
 unfolding whole within number string series several batch rising numbers row write writes item items mark op_done ops_listed read_listed
-carried_over = computed carried_over_script carried_over_events _ refl
+carried_over = computed carried_over_script carried_over_events carried_over_report refl
 
 -- Two of three nodes go on where one is lost.
 abbrev lost_node_script : Script
@@ -287,16 +309,19 @@ lost_node_events =
     event.Lose 3 ∷ event.Elect 1 ∷ event.All ∷ event.All ∷ event.All ∷ event.All ∷
     event.Step 1 1 5 ∷ event.All ∷ event.All ∷ event.All ∷ event.PlayAll 1 ∷ []
 
-lost_node : reported lost_node_script lost_node_events ≡ shown
+abbrev lost_node_report : ByWrites
+lost_node_report rows = shown
     (LeaderOpened 1 1 0 ∷ [])
     (done 1 2 1 1 [] ∷ [])
     (
-    up 1 1 (Leading 1) (1, 2) true (stream 1 2 2 ∷ []) (left lost_node_script (((0, 0), Some (5 ∷ [])) ∷ []))
-    ∷ up 2 1 Follower (1, 2) false (stream 1 2 2 ∷ []) (left lost_node_script [])
+    up 1 1 (Leading 1) (1, 2) true (stream 1 2 2 ∷ []) (rows (((0, 0), 5 ∷ []) ∷ []))
+    ∷ up 2 1 Follower (1, 2) false (stream 1 2 2 ∷ []) (rows [])
     ∷ lost 3
     ∷ [])
+
+lost_node : Reports lost_node_script lost_node_events lost_node_report
 unfolding whole within number string series several batch rising numbers row write writes item items mark op_done ops_listed read_listed
-lost_node = computed lost_node_script lost_node_events _ refl
+lost_node = computed lost_node_script lost_node_events lost_node_report refl
 
 -- Worker 2 read a record before worker 1 wrote it: its attempt is refused after its draw, and its next one counts. The end mark of worker 1 releases it.
 abbrev refused_attempt_script : Script
@@ -306,7 +331,7 @@ refused_attempt_script = record {
   workers = 2;
   batch = 1;
   tables = (2, 1) ∷ [];
-  rows = ((0, 0), Some (10 ∷ [])) ∷ [];
+  rows = ((0, 0), 10 ∷ []) ∷ [];
   lists = ((Get 0 (Num 0) 0 0 ∷ Add 0 (Reg 0) (Num 1) ∷ Put 0 (Num 0) ((Reg 0) ∷ []) ∷ Out (Reg 0) ∷ []) ∷ []) ∷ ((Get 0 (Num 0) 0 0 ∷ Add 0 (Reg 0) (Num 1) ∷ Put 0 (Num 0) ((Reg 0) ∷ []) ∷ Out (Reg 0) ∷ []) ∷ []) ∷ [];
 }
 
@@ -316,7 +341,8 @@ refused_attempt_events =
     event.Step 1 1 10 ∷ event.Step 1 2 3 ∷ event.Step 1 2 11 ∷ event.All ∷ event.All ∷
     event.Idle 1 1 ∷ event.All ∷ event.All ∷ event.All ∷ event.PlayAll 1 ∷ []
 
-refused_attempt : reported refused_attempt_script refused_attempt_events ≡ shown
+abbrev refused_attempt_report : ByWrites
+refused_attempt_report rows = shown
     (
     LeaderOpened 1 1 0
     ∷ AttemptRefused 1 2 1 (Changed 0 0 2199023255556)
@@ -326,7 +352,9 @@ refused_attempt : reported refused_attempt_script refused_attempt_events ≡ sho
     ∷ done 1 4 2 1 (12 ∷ [])
     ∷ [])
     (
-    up 1 1 (Leading 1) (1, 4) true (stream 1 3 3 ∷ stream 1 2 2 ∷ []) (left refused_attempt_script (((0, 0), Some (11 ∷ [])) ∷ ((0, 0), Some (12 ∷ [])) ∷ []))
+    up 1 1 (Leading 1) (1, 4) true (stream 1 3 3 ∷ stream 1 2 2 ∷ []) (rows (((0, 0), 11 ∷ []) ∷ ((0, 0), 12 ∷ []) ∷ []))
     ∷ [])
+
+refused_attempt : Reports refused_attempt_script refused_attempt_events refused_attempt_report
 unfolding whole within number string series several batch rising numbers row write writes item items mark op_done ops_listed read_listed
-refused_attempt = computed refused_attempt_script refused_attempt_events _ refl
+refused_attempt = computed refused_attempt_script refused_attempt_events refused_attempt_report refl

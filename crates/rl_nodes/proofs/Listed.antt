@@ -42,7 +42,7 @@ found rows place = finite.get rows place
 abbrev pub listed : Overlay → Written
 listed m = finite.entries m
 
-no_length : {A : Type 0} (es : List A) → length es ≡ 0 → es ≡ []
+pub no_length : {A : Type 0} (es : List A) → length es ≡ 0 → es ≡ []
 no_length [] e = refl
 no_length (x ∷ es) e = absurd (omega arith)
 

@@ -1,12 +1,24 @@
 -- What is true of every run, whatever its steps, deliveries, losses, repeats, elections and crashes.
-use Rattle.std.specs.Prelude.{◌≡◌, List, ◌++◌, All, Ok}
+use Rattle.std.specs.Prelude.{◌≡◌, ◌↔◌, List, ◌++◌, map, All, Ok, IsTrue}
+use Rattle.rl_base.specs.Lists.{IsPrefix}
 use Rattle.rl_base.specs.Results.{◌>>=◌}
+use Rattle.rl_base.specs.declared.stamp.Stamp.{Stamp}
+use Rattle.rl_value.specs.Tables.{Table}
+use Rattle.rl_txn.specs.Fits.{WriteFits}
+use Rattle.rl_txn.specs.declared.item.Item.{Item}
+use Rattle.rl_txn.specs.declared.write.Write.{Write}
+use Rattle.rl_paxos.specs.Logs.{Log}
 use Rattle.rl_events.specs.Fits.{EventFits}
 use Rattle.rl_events.specs.declared.event.Event.{Event}
-use Rattle.rl_nodes.specs.Events.{world_after, after_events, expanded_events}
+use Rattle.rl_families.specs.Logs.{IsRising}
+use Rattle.rl_replay.specs.Replay.{HaveSameStamps}
+use Rattle.rl_nodes.specs.BadMessages.{begins, write_fits}
+use Rattle.rl_nodes.specs.Batches.{are_rising}
+use Rattle.rl_nodes.specs.Events.{world_after, after_event, after_events, expanded_events}
 use Rattle.rl_nodes.specs.Safe.{Safe}
 use Rattle.rl_nodes.specs.Setups.{Setup, SetupFits}
-use Rattle.rl_nodes.specs.World.{World}
+use Rattle.rl_nodes.specs.Views.{have_same_stamps}
+use Rattle.rl_nodes.specs.World.{World, Sent}
 
 -- the released transactions in the order of their stamps are a prefix of one serial history, which the replicas and the opening
 -- lists begin too, and attempts are refused for true causes: after any events, so also between any two of them
@@ -14,8 +26,37 @@ abbrev pub EveryRunIsSafe : Type 0
 EveryRunIsSafe = (setup : Setup) (events : List Event) (w : World) → SetupFits setup
     → All (EventFits setup.nodes setup.workers) events → world_after setup events ≡ Ok w → Safe setup w
 
+-- ---- runs ----
+
 -- a run goes on from where its first events came to
 abbrev pub RunsGoOn : Type 0
 RunsGoOn = (setup : Setup) (events more : List Event)
     → world_after setup (events ++ more)
     ≡ (world_after setup events >>= after_events setup (expanded_events setup more))
+
+-- what a world has that only grows: the messages that were sent, what was released and told, and what leaders have had
+pub record Grows (old new : World) : Type 0 where
+  pub sent : IsPrefix (map (λ (m : Sent). m.message) old.sent) (map (λ (m : Sent). m.message) new.sent)
+  pub released : IsPrefix old.released new.released
+  pub lines : IsPrefix old.lines new.lines
+  pub openings : IsPrefix old.openings new.openings
+  pub gave : IsPrefix old.gave new.gave
+  pub refusals : IsPrefix old.refusals new.refusals
+
+-- each event lets it grow
+abbrev pub EventsOnlyAdd : Type 0
+EventsOnlyAdd = (setup : Setup) (e : Event) (old new : World) → after_event setup e old ≡ Ok new → Grows old new
+
+-- and so do any events
+abbrev pub RunsOnlyAdd : Type 0
+RunsOnlyAdd = (setup : Setup) (events : List Event) (old new : World)
+    → after_events setup events old ≡ Ok new → Grows old new
+
+-- ---- tests ----
+
+-- the tests of the rule of bad messages, and of a replica at its watermark, tell what they are named for
+pub record TestsTell : Type 0 where
+  pub rising : (stamps : List Stamp) → IsTrue (are_rising stamps) ↔ IsRising stamps
+  pub begins : (log longer : Log) → IsTrue (begins log longer) ↔ IsPrefix log longer
+  pub fits : (tables : List Table) (w : Write) → IsTrue (write_fits tables w) ↔ WriteFits tables w
+  pub same : (xs ys : List Item) → IsTrue (have_same_stamps xs ys) ↔ HaveSameStamps xs ys

@@ -1,6 +1,7 @@
 pub mod Answers
 pub mod BadMessages
 pub mod Batches
+pub mod Calls
 pub mod Elections
 pub mod Events
 pub mod Handles

@@ -1,0 +1,19 @@
+//! Laws of the definitions: the contract of each function is the law.
+
+ghost use Rattle.rl_nodes.specs.Laws.{RunsGoOn, EventsOnlyAdd, RunsOnlyAdd, TestsTell};
+
+/// A run goes on from where its first events came to.
+pub fn runs_go_on()
+    ensures { RunsGoOn }
+{}
+
+/// What was sent, released and told, and what leaders have had, is only added to.
+pub fn only_adds()
+    ensures event { EventsOnlyAdd }
+    ensures run { RunsOnlyAdd }
+{}
+
+/// The tests of the rule of bad messages, and of a replica at its watermark, tell what they are named for.
+pub fn tests_tell()
+    ensures { TestsTell }
+{}
