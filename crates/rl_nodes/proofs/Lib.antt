@@ -3,6 +3,7 @@ pub mod ExamplesElections
 pub mod ExamplesFaults
 pub mod ExamplesOneLeader
 pub mod Growing
+pub mod InStreams
 pub mod Listed
 pub mod Scripts
 pub mod Telling

@@ -1,5 +1,5 @@
 -- What is true of every run, whatever its steps, deliveries, losses, repeats, elections and crashes.
-use Rattle.std.specs.Prelude.{◌≡◌, ◌↔◌, List, ◌++◌, map, All, Ok, IsTrue}
+use Rattle.std.specs.Prelude.{◌≡◌, ◌↔◌, ℕ, List, ◌++◌, map, All, Some, Ok, IsTrue}
 use Rattle.rl_base.specs.Lists.{IsPrefix}
 use Rattle.rl_base.specs.Results.{◌>>=◌}
 use Rattle.rl_base.specs.declared.stamp.Stamp.{Stamp}
@@ -12,11 +12,18 @@ use Rattle.rl_events.specs.Fits.{EventFits}
 use Rattle.rl_events.specs.declared.event.Event.{Event}
 use Rattle.rl_families.specs.Logs.{IsRising}
 use Rattle.rl_replay.specs.Replay.{HaveSameStamps}
+use Rattle.rl_election.specs.World.{Envelope, StreamWorld}
+use Rattle.rl_election.specs.StreamEvents as streams
+use Rattle.rl_msg.specs.declared.msg.Msg.{Msg}
+use Rattle.rl_nodes.specs.Answers.{Did}
 use Rattle.rl_nodes.specs.BadMessages.{begins, write_fits}
 use Rattle.rl_nodes.specs.Batches.{are_rising}
 use Rattle.rl_nodes.specs.Events.{world_after, after_event, after_events, expanded_events}
+use Rattle.rl_nodes.specs.Handles.{receives}
+use Rattle.rl_nodes.specs.Nodes.{NodeState}
 use Rattle.rl_nodes.specs.Safe.{Safe}
-use Rattle.rl_nodes.specs.Setups.{Setup, SetupFits}
+use Rattle.rl_nodes.specs.Setups.{Setup, SetupFits, cluster_of}
+use Rattle.rl_nodes.specs.Streams.{envelope_of, streams_after_doing, IsInStreams}
 use Rattle.rl_nodes.specs.Views.{have_same_stamps}
 use Rattle.rl_nodes.specs.World.{World, Sent}
 
@@ -51,6 +58,26 @@ EventsOnlyAdd = (setup : Setup) (e : Event) (old new : World) → after_event se
 abbrev pub RunsOnlyAdd : Type 0
 RunsOnlyAdd = (setup : Setup) (events : List Event) (old new : World)
     → after_events setup events old ≡ Ok new → Grows old new
+
+-- ---- streams ----
+
+-- a message that a node takes
+pub record Taken (setup : Setup) : Type 0 where
+  pub streams : StreamWorld
+  pub node : ℕ
+  pub state : NodeState
+  pub message : Msg
+  pub did : Did
+  pub envelope : Envelope
+  pub is_node : IsInStreams streams node state
+  pub is_message : envelope_of message ≡ Some envelope
+  pub takes : receives setup node state message ≡ Ok did
+
+-- a node that takes a message does what the same node of the streams does, where it receives that message
+abbrev pub NodesTakeAsStreams : Type 0
+NodesTakeAsStreams = (setup : Setup) (t : Taken setup)
+    → streams.receives (cluster_of setup) t.streams t.node t.envelope.from t.envelope.message
+    ≡ streams_after_doing t.streams t.node t.did
 
 -- ---- tests ----
 
