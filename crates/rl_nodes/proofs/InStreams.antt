@@ -37,10 +37,10 @@ use Rattle.rl_nodes.specs.World.{term_of, terms_after}
 
 -- ---- what stays ----
 
-update_same : {A : Type 0} (f : ℕ → A) (i : ℕ) (x : A) → f i ≡ x → updated f i x ≡ f
+pub update_same : {A : Type 0} (f : ℕ → A) (i : ℕ) (x : A) → f i ≡ x → updated f i x ≡ f
 update_same f i x e = λ k j. by_updated (λ y. y ≡ f j) f i x j (λ same. sym e ∙ ap f (sym same)) (λ other. refl) k
 
-same_terms : (w : StreamWorld) (part : Part) → HasTerm w part → terms_after w.terms part ≡ w.terms
+pub same_terms : (w : StreamWorld) (part : Part) → HasTerm w part → terms_after w.terms part ≡ w.terms
 same_terms w Follows h = refl
 same_terms w (Stands c) h = refl
 same_terms w (Leads lead) h = update_same w.terms lead.epoch (Some (term_of lead)) h
@@ -86,7 +86,7 @@ prepare w g a x h from e =
     ∙ unless w a x h (refuses x.acceptor e) _ (promises a x from e)
     (sends_one w a x h (prepared x.acceptor e) (record { from = a; to = from; message = streams.promise_message e x.acceptor }))
 
-if_true : {A : Type 0} (b : Bool) (y z : A) → b ≡ true → (if b then y else z) ≡ y
+pub if_true : {A : Type 0} (b : Bool) (y z : A) → b ≡ true → (if b then y else z) ≡ y
 if_true b y z e = ap (λ c. if c then y else z) e
 
 sync : (w : StreamWorld) (g : world.Cluster) (a : ℕ) (x : NodeState) → IsInStreams w a x → (from e s : ℕ) (log : Log)
@@ -212,7 +212,7 @@ envelopes_of-append : (xs ys : List Msg) → envelopes_of (xs ++ ys) ≡ envelop
 envelopes_of-append xs ys = filter_map-append envelope_of xs ys
 
 -- the same message to each node
-to_all_same : (n a : ℕ) (m : world.Message) (f : ℕ → Msg) → ((k : ℕ) → envelope_of (f k) ≡ Some (record { from = a; to = k; message = m }))
+pub to_all_same : (n a : ℕ) (m : world.Message) (f : ℕ → Msg) → ((k : ℕ) → envelope_of (f k) ≡ Some (record { from = a; to = k; message = m }))
     → world.to_all n a m ≡ envelopes_of (map f (range_with_len 1 n))
 to_all_same zero a m f is = refl
 to_all_same (suc n) a m f is = sym (
@@ -342,7 +342,7 @@ promise setup w a x h e p =
 -- ---- any message ----
 
 -- an answer that is Ok
-abbrev IsAnswer : Answer → Type 0
+abbrev pub IsAnswer : Answer → Type 0
 IsAnswer (Ok did) = Unit {0}
 IsAnswer (Err e) = ⊥
 

@@ -1,3 +1,4 @@
+pub mod ChangesInStreams
 pub mod ExamplesBadMessages
 pub mod ExamplesElections
 pub mod ExamplesFaults

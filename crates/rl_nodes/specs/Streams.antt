@@ -1,11 +1,11 @@
 -- A world of nodes as a world of streams alone.
-use Rattle.std.specs.Prelude.{◌≡◌, ℕ, List, ◌++◌, filter_map, Option, Some, None}
+use Rattle.std.specs.Prelude.{◌≡◌, ℕ, ◌≤◌, length, List, ◌++◌, filter_map, Option, Some, None}
 use Rattle.rl_base.specs.Lists.{updated}
 use Rattle.rl_election.specs.World as streams
 use Rattle.rl_msg.specs.declared.msg.Msg.{Msg}
 use Rattle.rl_msg.specs.declared.msg.Msg.TheVariants.{Prepare, Promise, Sync, Accept, Ack, Known}
 use Rattle.rl_nodes.specs.Answers.{Did}
-use Rattle.rl_nodes.specs.Nodes.{NodeState, Part, Follows, Stands, Leads}
+use Rattle.rl_nodes.specs.Nodes.{NodeState, Part, Follows, Stands, Leads, leading}
 use Rattle.rl_nodes.specs.Setups.{Setup}
 use Rattle.rl_nodes.specs.World.{World, Sent, node_of, term_of, terms_after}
 
@@ -59,3 +59,8 @@ HasTerm w other = Unit {0}
 pub record IsInStreams (w : streams.StreamWorld) (a : ℕ) (x : NodeState) : Type 0 where
   pub node : w.node a ≡ stream_node x
   pub term : HasTerm w x.part
+
+-- the log of each stream of a leader is as long as the one with which it began, or longer
+abbrev pub HasBegun : Part → Type 0
+HasBegun (Leads lead) = (s : ℕ) → (leading lead s).initial_len ≤ length (leading lead s).log
+HasBegun other = Unit {0}
