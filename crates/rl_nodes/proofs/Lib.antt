@@ -1,8 +1,10 @@
+pub mod ChangesInStreams
 pub mod ExamplesBadMessages
 pub mod ExamplesElections
 pub mod ExamplesFaults
 pub mod ExamplesOneLeader
 pub mod Growing
+pub mod InStreams
 pub mod Listed
 pub mod Scripts
 pub mod Telling

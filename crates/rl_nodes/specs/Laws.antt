@@ -1,5 +1,5 @@
 -- What is true of every run, whatever its steps, deliveries, losses, repeats, elections and crashes.
-use Rattle.std.specs.Prelude.{◌≡◌, ◌↔◌, List, ◌++◌, map, All, Ok, IsTrue}
+use Rattle.std.specs.Prelude.{◌≡◌, ◌↔◌, ℕ, List, ◌++◌, map, All, Some, Ok, IsTrue}
 use Rattle.rl_base.specs.Lists.{IsPrefix}
 use Rattle.rl_base.specs.Results.{◌>>=◌}
 use Rattle.rl_base.specs.declared.stamp.Stamp.{Stamp}
@@ -8,15 +8,29 @@ use Rattle.rl_txn.specs.Fits.{WriteFits}
 use Rattle.rl_txn.specs.declared.item.Item.{Item}
 use Rattle.rl_txn.specs.declared.write.Write.{Write}
 use Rattle.rl_paxos.specs.Logs.{Log}
+use Rattle.rl_paxos.specs.Quorums.{is_node}
+use Rattle.rl_txn.specs.declared.batch.Batch.{Batch}
+use Rattle.rl_base.specs.Epochs.{next_epoch_of}
 use Rattle.rl_events.specs.Fits.{EventFits}
 use Rattle.rl_events.specs.declared.event.Event.{Event}
 use Rattle.rl_families.specs.Logs.{IsRising}
 use Rattle.rl_replay.specs.Replay.{HaveSameStamps}
+use Rattle.rl_batch.specs.Encoding.{batch_bytes}
+use Rattle.rl_election.specs.World.{Envelope, StreamWorld, Up, Down}
+use Rattle.rl_election.specs.StreamEvents.{StreamEvent}
+use Rattle.rl_election.specs.StreamEvents as streams
+use Rattle.rl_msg.specs.declared.msg.Msg.{Msg}
+use Rattle.rl_nodes.specs.Answers.{Did, quiet}
+use Rattle.rl_nodes.specs.Elections.{elects, crashed, returned, lost}
 use Rattle.rl_nodes.specs.BadMessages.{begins, write_fits}
 use Rattle.rl_nodes.specs.Batches.{are_rising}
 use Rattle.rl_nodes.specs.Events.{world_after, after_event, after_events, expanded_events}
+use Rattle.rl_nodes.specs.Handles.{receives}
+use Rattle.rl_nodes.specs.Nodes.{Lead, NodeState, Leads}
 use Rattle.rl_nodes.specs.Safe.{Safe}
-use Rattle.rl_nodes.specs.Setups.{Setup, SetupFits}
+use Rattle.rl_nodes.specs.Setups.{Setup, SetupFits, cluster_of}
+use Rattle.rl_nodes.specs.Streams.{envelope_of, streams_after_doing, IsInStreams, HasBegun}
+use Rattle.rl_nodes.specs.Works.{proposes}
 use Rattle.rl_nodes.specs.Views.{have_same_stamps}
 use Rattle.rl_nodes.specs.World.{World, Sent}
 
@@ -51,6 +65,56 @@ EventsOnlyAdd = (setup : Setup) (e : Event) (old new : World) → after_event se
 abbrev pub RunsOnlyAdd : Type 0
 RunsOnlyAdd = (setup : Setup) (events : List Event) (old new : World)
     → after_events setup events old ≡ Ok new → Grows old new
+
+-- ---- streams ----
+
+-- a message that a node takes
+pub record Taken (setup : Setup) : Type 0 where
+  pub streams : StreamWorld
+  pub node : ℕ
+  pub state : NodeState
+  pub message : Msg
+  pub did : Did
+  pub envelope : Envelope
+  pub is_node : IsInStreams streams node state
+  pub is_message : envelope_of message ≡ Some envelope
+  pub takes : receives setup node state message ≡ Ok did
+
+-- a node that takes a message does what the same node of the streams does, where it receives that message
+abbrev pub NodesTakeAsStreams : Type 0
+NodesTakeAsStreams = (setup : Setup) (t : Taken setup)
+    → streams.receives (cluster_of setup) t.streams t.node t.envelope.from t.envelope.message
+    ≡ streams_after_doing t.streams t.node t.did
+
+-- a node of a world that is one of the streams
+pub record Placed (setup : Setup) : Type 0 where
+  pub streams : StreamWorld
+  pub node : ℕ
+  pub state : NodeState
+  pub in_setup : IsTrue (is_node setup.nodes node)
+  pub in_streams : IsInStreams streams node state
+
+-- after an event of the streams they are as after the node did something
+abbrev pub Follows : (setup : Setup) → Placed setup → StreamEvent → Did → Type 0
+Follows setup t e did =
+    streams.after_stream_event (cluster_of setup) t.streams e ≡ streams_after_doing t.streams t.node did
+
+-- an election, a crash, a return and a loss of a node are those of the streams
+pub record NodesChangeAsStreams : Type 0 where
+  pub elects : (setup : Setup) (t : Placed setup) (did : Did) → t.state.state ≡ Up → elects setup t.node t.state ≡ Ok did
+      → Follows setup t (streams.Elect t.node (next_epoch_of t.state.acceptor.promised t.node setup.nodes)) did
+  pub crashes : (setup : Setup) (t : Placed setup) → t.state.state ≡ Up
+      → Follows setup t (streams.Crash t.node) (quiet (crashed setup t.state))
+  pub returns : (setup : Setup) (t : Placed setup) → t.state.state ≡ Down
+      → Follows setup t (streams.Return t.node) (quiet (returned t.state))
+  pub loses : (setup : Setup) (t : Placed setup) → Follows setup t (streams.Lose t.node) (quiet (lost setup t.state))
+
+-- a batch that an open leader proposes is a proposal of the streams
+abbrev pub LeadersProposeAsStreams : Type 0
+LeadersProposeAsStreams = (setup : Setup) (t : Placed setup) (lead : Lead) (s : ℕ) (batch : Batch) (did : Did)
+    → t.state.state ≡ Up → t.state.part ≡ Leads lead → HasBegun (Leads lead) → IsTrue (is_node setup.workers s)
+    → proposes setup t.node t.state lead s batch ≡ Ok did
+    → Follows setup t (streams.Propose t.node s (batch_bytes batch)) did
 
 -- ---- tests ----
 

@@ -11,6 +11,7 @@ pub mod Openings
 pub mod Reports
 pub mod Safe
 pub mod Setups
+pub mod Streams
 pub mod Views
 pub mod Works
 pub mod World

@@ -1,5 +1,5 @@
 -- What is safe at every moment of a run.
-use Rattle.std.specs.Prelude.{◌≡◌, ℕ, ◌<◌, List, map, filter_map, Contains, Option, Some, None, IsTrue}
+use Rattle.std.specs.Prelude.{◌≡◌, ℕ, ◌<◌, List, map, Contains, IsTrue}
 use Rattle.rl_base.specs.Lists.{IsPrefix}
 use Rattle.rl_txn.specs.declared.item.Item.{Item}
 use Rattle.rl_txn.specs.Serial.{rows_after}
@@ -8,47 +8,13 @@ use Rattle.rl_election.specs.World as streams
 use Rattle.rl_election.specs.Chosen.{IsLongestChosen}
 use Rattle.rl_families.specs.Families.{history}
 use Rattle.rl_families.specs.LeadersLogs.{IsSerialHistory}
-use Rattle.rl_msg.specs.declared.msg.Msg.{Msg}
-use Rattle.rl_msg.specs.declared.msg.Msg.TheVariants.{Prepare, Promise, Sync, Accept, Ack, Known}
 use Rattle.rl_worker.specs.Laws.{IsTrueCause}
 use Rattle.rl_nodes.specs.Batches.{batches_of}
-use Rattle.rl_nodes.specs.Nodes.{NodeState, Part, Follows, Stands, Leads, known_history}
+use Rattle.rl_nodes.specs.Nodes.{NodeState, known_history}
 use Rattle.rl_nodes.specs.Setups.{Setup, node_numbers, stream_numbers, cluster_of}
+use Rattle.rl_nodes.specs.Streams.{stream_world}
 use Rattle.rl_nodes.specs.Views.{is_at_watermark}
-use Rattle.rl_nodes.specs.World.{World, Sent, Opened, Given, Attempt, node_of}
-
--- ---- the streams of a world ----
-
--- a message between streams; a Known is none
-abbrev pub envelope_of : Msg → Option streams.Envelope
-envelope_of (Prepare from to e) = Some (record { from = from; to = to; message = streams.Prepare e })
-envelope_of (Promise from to e ballots logs) =
-    Some (record { from = from; to = to; message = streams.Promised e ballots logs })
-envelope_of (Sync from to e s log) = Some (record { from = from; to = to; message = streams.Sync e s log })
-envelope_of (Accept from to e s slot batch) =
-    Some (record { from = from; to = to; message = streams.Accept e s slot batch })
-envelope_of (Ack from to e s len) = Some (record { from = from; to = to; message = streams.Ack e s len })
-envelope_of (Known from to e s len) = None
-
--- the role of a part
-abbrev pub stream_role : Part → streams.Role
-stream_role Follows = streams.Follows
-stream_role (Stands c) = streams.Stands c
-stream_role (Leads lead) = streams.Leads lead.epoch
-
--- a node as the streams know it
-abbrev pub stream_node : NodeState → streams.Node
-stream_node x = record { state = x.state; acceptor = x.acceptor; role = stream_role x.part }
-
--- a world as a world of streams alone
-abbrev pub stream_world : Setup → World → streams.StreamWorld
-stream_world setup w = record {
-  node = λ a. stream_node (node_of setup w a);
-  terms = w.terms;
-  sent = filter_map (λ (m : Sent). envelope_of m.message) w.sent;
-}
-
--- ---- safety ----
+use Rattle.rl_nodes.specs.World.{World, Opened, Given, Attempt, node_of}
 
 -- the history of the logs of all streams
 abbrev pub history_of : Setup → (log : ℕ → bytes.Log) → List Item

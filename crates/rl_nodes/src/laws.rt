@@ -1,6 +1,6 @@
 //! Laws of the definitions: the contract of each function is the law.
 
-ghost use Rattle.rl_nodes.specs.Laws.{RunsGoOn, EventsOnlyAdd, RunsOnlyAdd, TestsTell};
+ghost use Rattle.rl_nodes.specs.Laws.{RunsGoOn, EventsOnlyAdd, RunsOnlyAdd, NodesTakeAsStreams, NodesChangeAsStreams, LeadersProposeAsStreams, TestsTell};
 
 /// A run goes on from where its first events came to.
 pub fn runs_go_on()
@@ -16,4 +16,16 @@ pub fn only_adds()
 /// The tests of the rule of bad messages, and of a replica at its watermark, tell what they are named for.
 pub fn tests_tell()
     ensures { TestsTell }
+{}
+
+/// A node that takes a message between streams does what the same node of the streams does at its delivery.
+pub fn nodes_are_streams()
+    ensures { NodesTakeAsStreams }
+{}
+
+/// What a node does by itself, an election, a crash, a return, a loss or a proposal, is what the same node of the
+/// streams does.
+pub fn changes_are_streams()
+    ensures alone { NodesChangeAsStreams }
+    ensures proposes { LeadersProposeAsStreams }
 {}
