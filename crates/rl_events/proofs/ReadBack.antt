@@ -89,7 +89,7 @@ pub reads_back : (nodes workers : ℕ) (e : Event) → IsSmall e → EventFits n
 reads_back nodes workers (event.Step n w k) small fits =
     judged_by_words nodes workers (codes "step" ∷ decimal n ∷ decimal w ∷ decimal k ∷ []) (three_numbers (codes "step") n w k (omega arith, refl) small.0 small.1 small.2)
     ∙ three_words_back event.Step (within 1 nodes) (within 1 workers) (within 1 EVENTS) (decimal n) (decimal w) (decimal k) n w k
-        (node_back nodes n fits.0 small.0) (node_back workers w fits.1 small.1) (within_back 1 EVENTS k fits.2 fits.3 small.2)
+    (node_back nodes n fits.0 small.0) (node_back workers w fits.1 small.1) (within_back 1 EVENTS k fits.2 fits.3 small.2)
 reads_back nodes workers (event.Flush n w) small fits = of_place nodes workers n w (codes "flush") event.Flush (omega arith, refl) fits.0 fits.1 small.0 small.1 refl
 reads_back nodes workers (event.Idle n w) small fits = of_place nodes workers n w (codes "idle") event.Idle (omega arith, refl) fits.0 fits.1 small.0 small.1 refl
 reads_back nodes workers (event.Dlv k) small fits = of_one nodes workers k (codes "dlv") event.Dlv (within 1 (2 ^ 64 - 1)) (omega arith, refl) small (within_back 1 (2 ^ 64 - 1) k fits.0 (omega arith) small) refl

@@ -135,7 +135,7 @@ scan_back : (tables : List Table) (t : ℕ) (k : Operand) (n c d : ℕ) → IsSc
 scan_back tables t k n c d schema fits =
     ap (λ r. r >>= λ t. four_words (op.Scan t) operand (within 1 256) (column tables t) register (operand_word k ∷ decimal n ∷ decimal c ∷ register_word d ∷ [])) (known_back tables t schema fits.0)
     ∙ four_words_back (op.Scan t) operand (within 1 256) (column tables t) register (operand_word k) (decimal n) (decimal c) (register_word d) k n c d
-        (operand_back k fits.1) (within_back 1 256 n fits.2 fits.3 (omega (arith, fits.3))) (column_back tables t c schema fits.0 fits.4) (register_read d fits.5)
+    (operand_back k fits.1) (within_back 1 256 n fits.2 fits.3 (omega (arith, fits.3))) (column_back tables t c schema fits.0 fits.4) (register_read d fits.5)
 
 put_back : (tables : List Table) (t : ℕ) (k : Operand) (values : List Operand) → IsSchema tables → OpFits tables (op.Put t k values) → read_op tables word.Put (name_of tables t ∷ operand_word k ∷ map operand_word values) ≡ Ok (op.Put t k values)
 put_back tables t k values schema fits =

@@ -31,21 +31,59 @@ fn says<E: Display>(rt: &impl Abort, alloc: Global, error: &E, text: &str) -> Re
 fn an_error_says_what_is_wrong(rt: HostRuntime) -> Result<(), Fail> {
     let alloc = rt.alloc();
     says(&rt, alloc, &ReadError::ReadFault, "read fault")?;
-    says(&rt, alloc, &ReadError::TooLong { limit: 9 }, "limit input 9")?;
+    says(
+        &rt,
+        alloc,
+        &ReadError::TooLong { limit: 9 },
+        "limit input 9",
+    )?;
     says(&rt, alloc, &DeclareError::DuplicateTable, "duplicate table")?;
     says(&rt, alloc, &DeclareError::TooManyTables, "too many tables")?;
-    says(&rt, alloc, &DeclareError::TooManyRecords, "too many records")?;
-    says(&rt, alloc, &KeyOutOfRange { size: 9 }, "key out of range: 9")?;
-    says(&rt, alloc, &ExpandError::TooManyEvents { limit: 9 }, "limit events 9")?;
-    says(&rt, alloc, &ProposeError::StreamFull { slots: 9 }, "limit slots 9")?;
+    says(
+        &rt,
+        alloc,
+        &DeclareError::TooManyRecords,
+        "too many records",
+    )?;
+    says(
+        &rt,
+        alloc,
+        &KeyOutOfRange { size: 9 },
+        "key out of range: 9",
+    )?;
+    says(
+        &rt,
+        alloc,
+        &ExpandError::TooManyEvents { limit: 9 },
+        "limit events 9",
+    )?;
+    says(
+        &rt,
+        alloc,
+        &ProposeError::StreamFull { slots: 9 },
+        "limit slots 9",
+    )?;
     says(&rt, alloc, &NetError::NetFull { limit: 9 }, "limit bytes 9")?;
     says(&rt, alloc, &NoMessage { number: 9 }, "nomessage 9")?;
-    says(&rt, alloc, &RecoverError::NotYet { have: 1, need: 2 }, "promises 1 of 2")?;
+    says(
+        &rt,
+        alloc,
+        &RecoverError::NotYet { have: 1, need: 2 },
+        "promises 1 of 2",
+    )?;
     says(&rt, alloc, &Refused::Promised { promised: 9 }, "promised 9")?;
     says(&rt, alloc, &Refused::OtherBallot { ballot: 9 }, "ballot 9")?;
     says(&rt, alloc, &Refused::OutOfOrder { len: 9 }, "order 9")?;
     let stamp = Stamp { epoch: 1, seq: 2 };
-    says(&rt, alloc, &ExtendError::Order { last: stamp, got: stamp }, "order")
+    says(
+        &rt,
+        alloc,
+        &ExtendError::Order {
+            last: stamp,
+            got: stamp,
+        },
+        "order",
+    )
 }
 
 #[test]
@@ -83,7 +121,10 @@ fn a_fault_says_its_rule(rt: HostRuntime) -> Result<(), Fail> {
     for (kind, text) in kinds {
         says(&rt, rt.alloc(), &EventFault { kind }, text)?;
     }
-    let fault = ParseError::Fault { line: 3, kind: Kind::Byte };
+    let fault = ParseError::Fault {
+        line: 3,
+        kind: Kind::Byte,
+    };
     says(&rt, rt.alloc(), &fault, "fault line 3 Byte")
 }
 
@@ -103,7 +144,11 @@ fn a_passed_limit_says_its_name(rt: HostRuntime) -> Result<(), Fail> {
         (LimitName::Asks, "line 3: limit asks 9"),
     ];
     for (name, text) in names {
-        let passed = ParseError::Limit { line: 3, name, limit: 9 };
+        let passed = ParseError::Limit {
+            line: 3,
+            name,
+            limit: 9,
+        };
         says(&rt, rt.alloc(), &passed, text)?;
     }
     Ok(())
