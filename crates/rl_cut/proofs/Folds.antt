@@ -10,25 +10,18 @@ use Rattle.rl_families.specs.Logs.{stamps_in_batch, stamps_along, first_stamp, l
 use Rattle.rl_families.specs.Families.{least}
 use Rattle.rl_families.proofs.Logs.{stamps_along-append, last_seq_among-append}
 
--- the stamps_along of one more item, and of one more batch
-stamps_more : (xs : List Item) (i : ℕ) (x : Item) → i < length xs → x ≡ get_or xs i x → map (λ (y : Item). y.stamp) (take (i + 1) xs) ≡ map (λ (y : Item). y.stamp) (take i xs) ++ x.stamp ∷ []
+-- the greatest seq of an epoch among one more stamp
+pub last_seq_push : (xs : List Stamp) (i : ℕ) (d : Stamp) (e : ℕ) → i < length xs
+    → max (last_seq_among (get_or xs i d ∷ []) e) (last_seq_among (take i xs) e) ≡ last_seq_among (take (i + 1) xs) e
+last_seq_push xs i d e l = sym (ap (λ ss. last_seq_among ss e) (take_more xs i d l) ∙ last_seq_among-append (take i xs) (get_or xs i d ∷ []) e)
+
+-- the stamps of one more item
+pub stamps_more : (xs : List Item) (i : ℕ) (x : Item) → i < length xs → x ≡ get_or xs i x → map (λ (y : Item). y.stamp) (take (i + 1) xs) ≡ map (λ (y : Item). y.stamp) (take i xs) ++ x.stamp ∷ []
 stamps_more xs i x l e = ap (map (λ (y : Item). y.stamp)) (take_more xs i x l) ∙ map_push (take i xs) ∙ ap (λ (y : Item). map (λ (z : Item). z.stamp) (take i xs) ++ y.stamp ∷ []) (sym e)
   where
     map_push : (ys : List Item) → map (λ (y : Item). y.stamp) (ys ++ get_or xs i x ∷ []) ≡ map (λ (y : Item). y.stamp) ys ++ (get_or xs i x).stamp ∷ []
     map_push [] = refl
     map_push (y ∷ ys) = ap (λ zs. y.stamp ∷ zs) (map_push ys)
-
--- the last_seq of an epoch among the stamps_along of one more item, and of one more batch
-pub last_seq_more_item : (xs : List Item) (i : ℕ) (x : Item) (e : ℕ) → i < length xs → x ≡ get_or xs i x
-    → max (last_seq_among (x.stamp ∷ []) e) (last_seq_among (map (λ (y : Item). y.stamp) (take i xs)) e) ≡ last_seq_among (map (λ (y : Item). y.stamp) (take (i + 1) xs)) e
-last_seq_more_item xs i x e l p = sym (ap (λ ss. last_seq_among ss e) (stamps_more xs i x l p) ∙ last_seq_among-append (map (λ (y : Item). y.stamp) (take i xs)) (x.stamp ∷ []) e)
-
-batches_more : (xs : List Batch) (i : ℕ) (x : Batch) → i < length xs → x ≡ get_or xs i x → stamps_along (take (i + 1) xs) ≡ stamps_along (take i xs) ++ stamps_in_batch x
-batches_more xs i x l p = ap stamps_along (take_more xs i x l) ∙ stamps_along-append (take i xs) (get_or xs i x ∷ []) ∙ ap (λ ss. stamps_along (take i xs) ++ ss) (append-nil (stamps_in_batch (get_or xs i x)) ∙ ap stamps_in_batch (sym p))
-
-pub last_seq_more : (xs : List Batch) (i : ℕ) (x : Batch) (e : ℕ) → i < length xs → x ≡ get_or xs i x
-    → max (last_seq_among (stamps_in_batch x) e) (last_seq_among (stamps_along (take i xs)) e) ≡ last_seq_among (stamps_along (take (i + 1) xs)) e
-last_seq_more xs i x e l p = sym (ap (λ ss. last_seq_among ss e) (batches_more xs i x l p) ∙ last_seq_among-append (stamps_along (take i xs)) (stamps_in_batch x) e)
 
 -- the last_seq stamp of two lists is that of the second, if it has one
 pub last_stamp-append : (xs ys : List Stamp) → last_stamp (xs ++ ys) ≡ option_or (last_stamp ys) (last_stamp xs)
@@ -45,10 +38,6 @@ last_stamp-append (x ∷ []) (y ∷ ys) = has_last y ys (Some x)
     has_last z (w ∷ ws) o = has_last w ws o
 last_stamp-append (x ∷ (z ∷ zs)) ys = last_stamp-append (z ∷ zs) ys
 
-pub last_stamp_more : (xs : List Batch) (i : ℕ) (x : Batch) → i < length xs → x ≡ get_or xs i x
-    → option_or (last_stamp (stamps_in_batch x)) (last_stamp (stamps_along (take i xs))) ≡ last_stamp (stamps_along (take (i + 1) xs))
-last_stamp_more xs i x l p = sym (ap last_stamp (batches_more xs i x l p) ∙ last_stamp-append (stamps_along (take i xs)) (stamps_in_batch x))
-
 -- the last_seq item has the last_seq stamp
 last_at : (xs : List Item) (n : ℕ) → length xs ≡ suc n → option_map (λ (x : Item). x.stamp) (slice_get xs n) ≡ last_stamp (map (λ (x : Item). x.stamp) xs)
 last_at [] n e = absurd (omega arith)
@@ -60,6 +49,17 @@ last_at (x ∷ (y ∷ ys)) (suc n) e = last_at (y ∷ ys) n (omega arith)
 pub last_item : (xs : List Item) → option_map (λ (x : Item). x.stamp) (slice_get xs (length xs - 1)) ≡ last_stamp (map (λ (x : Item). x.stamp) xs)
 last_item [] = refl
 last_item (x ∷ xs) = let e : length (x ∷ xs) - 1 ≡ length xs = omega arith in rw e (last_at (x ∷ xs) (length xs) refl)
+
+last_stamp_at : (xs : List Stamp) (n : ℕ) → length xs ≡ suc n → slice_get xs n ≡ last_stamp xs
+last_stamp_at [] n e = absurd (omega arith)
+last_stamp_at (x ∷ []) zero e = refl
+last_stamp_at (x ∷ []) (suc n) e = absurd (omega arith)
+last_stamp_at (x ∷ (y ∷ ys)) zero e = absurd (omega arith)
+last_stamp_at (x ∷ (y ∷ ys)) (suc n) e = last_stamp_at (y ∷ ys) n (omega arith)
+
+pub last_of_stamps : (xs : List Stamp) → slice_get xs (length xs - 1) ≡ last_stamp xs
+last_of_stamps [] = refl
+last_of_stamps (x ∷ xs) = let e : length (x ∷ xs) - 1 ≡ length xs = omega arith in rw e (last_stamp_at (x ∷ xs) (length xs) refl)
 
 pub first_item : (xs : List Item) → option_map (λ (x : Item). x.stamp) (slice_get xs 0) ≡ first_stamp (map (λ (x : Item). x.stamp) xs)
 first_item [] = refl
@@ -85,6 +85,6 @@ pub found_least : (xs : List ℕ) → unwrap_or (found xs) 0 ≡ least xs
 found_least [] = refl
 found_least (x ∷ xs) = refl
 
-pub found_more : (h : List Batch → ℕ) (xs : List (List Batch)) (i : ℕ) (x : List Batch) → i < length xs → x ≡ get_or xs i x
+pub found_more : {X : Type 0} (h : X → ℕ) (xs : List X) (i : ℕ) (x : X) → i < length xs → x ≡ get_or xs i x
     → Some (option_map_or (λ l. min l (h x)) (found (map h (take i xs))) (h x)) ≡ found (map h (take (i + 1) xs))
 found_more h xs i x l p = sym (ap (λ ys. found (map h ys)) (take_more xs i x l) ∙ ap found (map-append h (take i xs) (get_or xs i x ∷ [])) ∙ ap (λ y. found (map h (take i xs) ++ h y ∷ [])) (sym p) ∙ found-push (map h (take i xs)) (h x))

@@ -1,3 +1,6 @@
 pub mod Folds
 pub mod StableSort
 pub mod Appending
+pub mod LastStamps
+pub mod Counting
+pub mod Growing

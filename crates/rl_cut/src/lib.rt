@@ -1,5 +1,8 @@
 //! Families of logs, and the history that the logs of all streams decide together.
 #![tactic(auto)]
 
+mod due;
 pub mod family;
+mod lasts;
 pub mod laws;
+mod stamps;

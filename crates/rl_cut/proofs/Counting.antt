@@ -1,0 +1,151 @@
+-- What counts now, as a family grows.
+use Rattle.std.proofs.Common.{◌≡◌, ◌≢◌, ◌⊎◌, ℕ, suc, zero, ◌+◌, ◌<◌, ◌≤◌, List, [], ◌∷◌, ◌++◌, length, get_or, map, take, drop, cond, Bool, true, false, ◌&&◌, ◌||◌, ◌==◌, nat_lt, nat_le, Option, Some, None, All, refl, sym, ap, ◌∙◌, subst, arith, inl, inr, true≢false}
+use Rattle.std.specs.Prelude.{not, slice_set}
+use Rattle.std.specs.List.{filter, flat_map}
+use Rattle.std.specs.Option.{option_map_or}
+use Rattle.std.proofs.lemmas.Bool.{cases_Bool, and_from, and_parts}
+use Rattle.std.proofs.lemmas.Bool.Decides.{nat_tests, eqb_tells}
+use Rattle.std.proofs.lemmas.List.Elements.{filter_agree}
+use Rattle.std.proofs.lemmas.List.{append-nil}
+use Rattle.rl_base.specs.declared.stamp.Stamp.{Stamp}
+use Rattle.rl_base.specs.Order.{IsBelow, is_below}
+use Rattle.rl_base.specs.Lists.{IsPrefix}
+use Rattle.rl_base.proofs.Members.{In}
+use Rattle.rl_txn.specs.declared.item.Item.{Item}
+use Rattle.rl_txn.specs.declared.batch.Batch.{Batch}
+use Rattle.rl_families.specs.Order.{in_order}
+use Rattle.rl_families.specs.Logs.{stamps_in_batch, items_in_batch, stamps_along, items_along, IsRising, first_stamp, last_stamp, top_epoch, last_seq}
+use Rattle.rl_families.specs.Families.{least_top, all_reached, watermark, is_counted, history, IsInside, AllRise}
+use Rattle.rl_families.specs.Laws.{is_up_to_watermark}
+use Rattle.rl_families.proofs.Members.{all_in, in_map, map_in, in_front}
+use Rattle.rl_families.proofs.Logs.{item_stamp, stamps_along-append}
+use Rattle.rl_families.proofs.Rising.{Rises, rises_from, Above, above_in, below_last, last_is}
+use Rattle.rl_families.proofs.Sorting.{lower, Sorted, Least, in_order_sorted, in_order-filter}
+use Rattle.rl_families.proofs.Nesting.{least_le, least_from, inside_at, top_grows, last_grows, history_cut}
+use Rattle.rl_cut.specs.Kept.{least_epoch, least_seq, counts_now, mark_of, AreUpTo}
+
+-- ---- lists ----
+-- what passes and what does not, where what passes stands first
+pub split_front : (f : Item → Bool) (xs : List Item) → Sorted xs → ((x y : Item) → lower y x ≡ false → f y ≡ true → f x ≡ true) → filter f xs ++ filter (λ x. not (f x)) xs ≡ xs
+split_front f [] s down = refl
+split_front f (x ∷ xs) s down = elim (cases_Bool (f x)) [
+  | inl t ↦ rw t (ap (λ z. x ∷ z) (split_front f xs s.1 down))
+  | inr t ↦ (let n = nothing xs s.0 t in rw (t, n.0, n.1) refl)
+]
+  where
+    nothing : (ys : List Item) → Least x ys → f x ≡ false → (filter f ys ≡ []) × (filter (λ y. not (f y)) ys ≡ ys)
+    nothing [] h t = (refl, refl)
+    nothing (y ∷ ys) h t = elim (cases_Bool (f y)) [
+      | inl v ↦ absurd (true≢false (sym (down x y h.0 v) ∙ t))
+      | inr v ↦ (let k = nothing ys h.1 t in (rw v k.0, rw v (ap (λ z. y ∷ z) k.1)))
+    ]
+
+filter_not : (f g : Item → Bool) (xs : List Item) → filter (λ x. not (g x)) (filter f xs) ≡ filter (λ x. f x && not (g x)) xs
+filter_not f g [] = refl
+filter_not f g (x ∷ xs) = elim (cases_Bool (f x)) [
+  | inl t ↦ elim (cases_Bool (g x)) [ inl u ↦ rw (t, u) (filter_not f g xs) | inr u ↦ rw (t, u) (ap (λ z. x ∷ z) (filter_not f g xs)) ]
+  | inr t ↦ rw t (filter_not f g xs)
+]
+
+pub filter_none : (f : Item → Bool) (xs : List Item) → ((x : Item) → In x xs → f x ≡ false) → filter f xs ≡ []
+filter_none f [] h = refl
+filter_none f (x ∷ xs) h = rw (h x (inl refl)) (filter_none f xs (λ y i. h y (inr i)))
+
+-- ---- watermarks ----
+-- a stamp that is not above one up to a watermark is up to it
+pub up_to_down : (mark : ℕ × ℕ) (s t : Stamp) → is_below t s ≡ false → is_up_to_watermark mark t ≡ true → is_up_to_watermark mark s ≡ true
+up_to_down mark s t a b = go mark.0 mark.1 s.epoch s.seq t.epoch t.seq a b
+  where
+    go : (e q a b c d : ℕ) → (nat_lt c a || ((c == a) && nat_lt d b)) ≡ false → (nat_lt c e || ((c == e) && nat_le d q)) ≡ true → (nat_lt a e || ((a == e) && nat_le b q)) ≡ true
+    go e q a b c d h k = grind (arith, nat_tests)
+
+-- the history of a larger family is that of the smaller one, and then what counts now
+pub history_grows : (family larger : List (List Batch)) → IsInside family larger → AllRise larger
+    → history larger ≡ history family ++ in_order (filter (λ x. is_counted larger x.stamp && not (is_up_to_watermark (watermark family) x.stamp)) (flat_map items_along larger))
+history_grows family larger h a =
+    let low : Item → Bool = λ x. is_up_to_watermark (watermark family) x.stamp in
+    let more : Item → Bool = λ x. is_counted larger x.stamp in
+    let all = filter more (flat_map items_along larger) in
+    sym (split_front low (history larger) (in_order_sorted all) (λ x y b t. up_to_down (watermark family) x.stamp y.stamp b t))
+    ∙ ap (λ z. z ++ filter (λ x. not (low x)) (history larger)) (sym (history_cut family larger h a))
+    ∙ ap (λ z. history family ++ z) (sym (in_order-filter (λ x. not (low x)) all) ∙ ap in_order (filter_not more low (flat_map items_along larger)))
+
+-- a watermark does not fall
+pub mark_grows : (family larger : List (List Batch)) → IsInside family larger → AllRise larger → (s : Stamp) → is_up_to_watermark (watermark family) s ≡ true → is_up_to_watermark (watermark larger) s ≡ true
+mark_grows [] [] h a s u = u
+mark_grows [] (m ∷ ms) h a s u = absurd h
+mark_grows (l ∷ ls) [] h a s u = absurd h
+mark_grows (l ∷ ls) (m ∷ ms) h a s u =
+    go (least_top (l ∷ ls)) (all_reached (l ∷ ls)) (least_top (m ∷ ms)) (all_reached (m ∷ ms)) s.epoch s.seq tops seqs u
+  where
+    rises : (log : List Batch) → In log (m ∷ ms) → Rises (stamps_along log)
+    rises log i = rises_from (stamps_along log) (all_in (λ z. IsRising (stamps_along z)) (m ∷ ms) a log i)
+
+    trans : (a b c : ℕ) → a ≤ b → b ≤ c → a ≤ c
+    trans a b c p q = omega arith
+
+    tops : least_top (l ∷ ls) ≤ least_top (m ∷ ms)
+    tops = least_from (least_top (l ∷ ls)) (top_epoch m) (map top_epoch ms) (λ k i.
+        let p = map_in top_epoch k (m ∷ ms) i in
+        let b = inside_at (l ∷ ls) (m ∷ ms) h p.0 p.1 in
+        subst (λ n. least_top (l ∷ ls) ≤ n) p.2 (trans (least_top (l ∷ ls)) (top_epoch b.0) (top_epoch p.0) (least_le (top_epoch b.0) (map top_epoch (l ∷ ls)) (in_map top_epoch b.0 (l ∷ ls) b.1)) (top_grows b.0 p.0 b.2 (rises p.0 p.1))))
+
+    seqs : (e : ℕ) → all_reached (l ∷ ls) e ≤ all_reached (m ∷ ms) e
+    seqs e = least_from (all_reached (l ∷ ls) e) (last_seq m e) (map (λ log. last_seq log e) ms) (λ k i.
+        let p = map_in (λ log. last_seq log e) k (m ∷ ms) i in
+        let b = inside_at (l ∷ ls) (m ∷ ms) h p.0 p.1 in
+        subst (λ n. all_reached (l ∷ ls) e ≤ n) p.2 (trans (all_reached (l ∷ ls) e) (last_seq b.0 e) (last_seq p.0 e) (least_le (last_seq b.0 e) (map (λ log. last_seq log e) (l ∷ ls)) (in_map (λ log. last_seq log e) b.0 (l ∷ ls) b.1)) (last_grows b.0 p.0 b.2 (rises p.0 p.1) e)))
+
+    go : (t : ℕ) (f : ℕ → ℕ) (u : ℕ) (g : ℕ → ℕ) (e q : ℕ) → t ≤ u → ((n : ℕ) → f n ≤ g n) → (nat_lt e t || ((e == t) && nat_le q (cond (t == 0) 0 (f t)))) ≡ true → (nat_lt e u || ((e == u) && nat_le q (cond (u == 0) 0 (g u)))) ≡ true
+    go t f u g e q h k b = elim (eqb_tells t u) [
+      | inl same ↦ subst (λ z. (nat_lt e z || ((e == z) && nat_le q (cond (z == 0) 0 (g z)))) ≡ true) same.1 (at_one e q t (f t) (g t) (k t) b)
+      | inr other ↦ above e q t (cond (t == 0) 0 (f t)) u (cond (u == 0) 0 (g u)) h other.1 b
+    ]
+      where
+        at_one : (e q t x y : ℕ) → x ≤ y → (nat_lt e t || ((e == t) && nat_le q (cond (t == 0) 0 x))) ≡ true → (nat_lt e t || ((e == t) && nat_le q (cond (t == 0) 0 y))) ≡ true
+        at_one e q t x y h b = grind (arith, nat_tests)
+
+        above : (e q t x u y : ℕ) → t ≤ u → (t ≡ u → ⊥) → (nat_lt e t || ((e == t) && nat_le q x)) ≡ true → (nat_lt e u || ((e == u) && nat_le q y)) ≡ true
+        above e q t x u y h n b = grind (arith, nat_tests)
+
+-- ---- what counts now ----
+-- it is up to the watermark
+pub now_low : (reached : List (List Stamp)) (before : ℕ × ℕ) (s : Stamp) → counts_now reached before s ≡ true → is_up_to_watermark (mark_of reached) s ≡ true
+now_low reached before s c = go s.epoch s.seq (least_epoch reached) (least_seq reached) (is_up_to_watermark before s) c
+  where
+    go : (e q t : ℕ) (f : ℕ → ℕ) (b : Bool) → ((nat_lt 0 e && (nat_le e t && nat_le q (f e))) && not b) ≡ true → (nat_lt e t || ((e == t) && nat_le q (cond (t == 0) 0 (f t)))) ≡ true
+    go e q t f b c = elim (eqb_tells e t) [
+      | inl same ↦ at_top e q t (f t) b same.1 (subst (λ n. ((nat_lt 0 e && (nat_le e t && nat_le q (f n))) && not b) ≡ true) same.1 c)
+      | inr other ↦ below e q t (f e) (cond (t == 0) 0 (f t)) b other.1 c
+    ]
+      where
+        at_top : (e q t m : ℕ) (b : Bool) → e ≡ t → ((nat_lt 0 e && (nat_le e t && nat_le q m)) && not b) ≡ true → (nat_lt e t || ((e == t) && nat_le q (cond (t == 0) 0 m))) ≡ true
+        at_top e q t m true h c = grind (arith, nat_tests)
+        at_top e q t m false h c = grind (arith, nat_tests)
+
+        below : (e q t m n : ℕ) (b : Bool) → (e ≡ t → ⊥) → ((nat_lt 0 e && (nat_le e t && nat_le q m)) && not b) ≡ true → (nat_lt e t || ((e == t) && nat_le q n)) ≡ true
+        below e q t m n true h c = grind (arith, nat_tests)
+        below e q t m n false h c = grind (arith, nat_tests)
+
+-- and the test of the code
+pub now_tells : (reached : List (List Stamp)) (before : ℕ × ℕ) (s : Stamp) (mark : ℕ × ℕ) → mark ≡ mark_of reached
+    → ((not (s.epoch == 0) && not (is_up_to_watermark before s)) && (is_up_to_watermark mark s && ((s.epoch == mark.0) || nat_le s.seq (least_seq reached s.epoch)))) ≡ counts_now reached before s
+now_tells reached before s mark h =
+    subst (λ m. ((not (s.epoch == 0) && not (is_up_to_watermark before s)) && (is_up_to_watermark m s && ((s.epoch == m.0) || nat_le s.seq (least_seq reached s.epoch)))) ≡ counts_now reached before s) (sym h)
+    (go s.epoch s.seq (least_epoch reached) (least_seq reached) (is_up_to_watermark before s))
+  where
+    go : (e q t : ℕ) (f : ℕ → ℕ) (b : Bool) → ((not (e == 0) && not b) && ((nat_lt e t || ((e == t) && nat_le q (cond (t == 0) 0 (f t)))) && ((e == t) || nat_le q (f e)))) ≡ ((nat_lt 0 e && (nat_le e t && nat_le q (f e))) && not b)
+    go e q t f b = elim (eqb_tells e t) [
+      | inl same ↦ subst (λ z. ((not (e == 0) && not b) && ((nat_lt e z || ((e == z) && nat_le q (cond (z == 0) 0 (f z)))) && ((e == z) || nat_le q (f e)))) ≡ ((nat_lt 0 e && (nat_le e z && nat_le q (f e))) && not b)) same.1 (at_top e q (f e) b)
+      | inr other ↦ apart e q t (f e) (cond (t == 0) 0 (f t)) b other.1
+    ]
+      where
+        at_top : (e q m : ℕ) (b : Bool) → ((not (e == 0) && not b) && ((nat_lt e e || ((e == e) && nat_le q (cond (e == 0) 0 m))) && ((e == e) || nat_le q m))) ≡ ((nat_lt 0 e && (nat_le e e && nat_le q m)) && not b)
+        at_top zero q m true = refl
+        at_top zero q m false = refl
+        at_top (suc e) q m true = grind (arith, nat_tests)
+        at_top (suc e) q m false = grind (arith, nat_tests)
+
+        apart : (e q t m n : ℕ) (b : Bool) → (e ≡ t → ⊥) → ((not (e == 0) && not b) && ((nat_lt e t || ((e == t) && nat_le q n)) && ((e == t) || nat_le q m))) ≡ ((nat_lt 0 e && (nat_le e t && nat_le q m)) && not b)
+        apart e q t m n true h = grind (arith, nat_tests)
+        apart e q t m n false h = grind (arith, nat_tests)

@@ -1,0 +1,27 @@
+use Rattle.std.proofs.Common.{◌≡◌, ◌<◌, ◌≤◌, ap, sym, subst, ◌∙◌, arith, ℕ}
+use Rattle.rl_base.specs.declared.bound.Bound.TheVariants.{Final, Rising}
+use Rattle.rl_families.specs.Families.{bound_of, least_top}
+use Rattle.rl_cut.specs.Kept.{least_seq}
+use Rattle.rl_cut.proofs.LastStamps.{least_seq_is}
+use Rattle.rl_cut.proofs.Growing.{bound_final, bound_rising}
+use Rattle.rl_cut.proofs.family.Family.bound.Goals as goal
+
+pub returns-then-epoch-top-2 : goal.returns-then-epoch-top-2
+returns-then-epoch-top-2 c =
+    let logs = c.self.inside.logs.items in
+    let k = c.self.invariant in
+    let e = c.args.epoch in
+    let top : c.self.inside.mark.0 ≡ least_top logs = ap (λ (m : ℕ × ℕ). m.0) k.mark in
+    let seq = c.least_seq-seq.ensures ∙ ap (λ z. least_seq z e) c.deref.ensures.value ∙ least_seq_is logs c.self.inside.reached.items k.streams k.reached e in
+    let below : e < least_top logs = omega (arith, c.if-epoch-top-2.true) in
+    ap Final seq ∙ bound_final logs e below ∙ ap (λ f. bound_of f e) c.self.view_is
+
+pub returns-else-epoch-top-2 : goal.returns-else-epoch-top-2
+returns-else-epoch-top-2 c =
+    let logs = c.self.inside.logs.items in
+    let k = c.self.invariant in
+    let e = c.args.epoch in
+    let top : c.self.inside.mark.0 ≡ least_top logs = ap (λ (m : ℕ × ℕ). m.0) k.mark in
+    let seq = c.least_seq-seq.ensures ∙ ap (λ z. least_seq z e) c.deref.ensures.value ∙ least_seq_is logs c.self.inside.reached.items k.streams k.reached e in
+    let same : e ≡ least_top logs = omega (arith, c.if-epoch-top-2.false, c.if-epoch-top.false) in
+    ap Rising seq ∙ bound_rising logs e same ∙ ap (λ f. bound_of f e) c.self.view_is

@@ -1,6 +1,0 @@
-use Rattle.std.proofs.Common.{◌≡◌, take}
-use Rattle.rl_families.specs.Logs.{stamps_along, last_seq_among}
-use Rattle.rl_cut.proofs.family.last_seq.Given as goal
-
-abbrev pub invariant-loop-batch : goal.invariant-loop-batch
-invariant-loop-batch l = l.last ≡ last_seq_among (stamps_along (take l.batch-index l.batch-items)) l.epoch
