@@ -26,7 +26,8 @@ use Rattle.rl_worker.specs.Acts.{opening_core}
 use Rattle.std.specs.Prelude.{slice_index}
 use Rattle.rl_worker.specs.Opening.{overlay_of, install_of, outcome_of, outcome, request, asks, setting_of, at_rest}
 use Rattle.rl_worker.specs.Phases.{Read, Rec, Outcome, Wants, Ends, Setting}
-use Rattle.rl_nodes.specs.Openings.{Program, Work, work_of, opening_stamps, next_request}
+use Rattle.rl_nodes.specs.Openings.{Program, Work, work_of, next_request}
+use Rattle.rl_worker.specs.Stamping.{opening_stamps}
 
 -- a row at each place, and what was written at some
 abbrev pub Found : Type 0
@@ -334,7 +335,7 @@ setting_same tables lists epoch = λ i. record (setting_of tables lists epoch) {
 abbrev pub work_listed : List Table → Written → List (List (List Op)) → Work
 work_listed tables rows lists = record {
   opening = λ epoch items. opening_core (setting_listed tables lists epoch)
-      (recs_listed tables (found_after_items (found_in rows) items) (opening_stamps tables items))
+      (recs_listed tables (found_after_items (found_in rows) items) (opening_stamps (sizes_of tables) items))
       (at_rest (map (next_request items) (range_with_len 1 (length lists))));
   setting = setting_listed tables lists;
 }
@@ -350,7 +351,7 @@ pub work_same : (tables : List Table) (rows : Written) (lists : List (List (List
     → work_listed tables rows lists ≡ work_of (program_of tables rows lists)
 work_same tables rows lists = λ i. record {
   opening = λ epoch items. opening_core (setting_same tables lists epoch i)
-      (recs_listed tables (opening_rows rows items i) (opening_stamps tables items))
+      (recs_listed tables (opening_rows rows items i) (opening_stamps (sizes_of tables) items))
       (at_rest (map (next_request items) (range_with_len 1 (length lists))));
   setting = λ epoch. setting_same tables lists epoch i;
 }

@@ -10,8 +10,8 @@ use Rattle.rl_txn.specs.declared.batch.Batch.TheVariants.{Items}
 use Rattle.rl_batch.specs.Encoding.{batch_bytes}
 use Rattle.rl_msg.specs.declared.msg.Msg.TheVariants.{Accept}
 use Rattle.rl_worker.specs.Phases.{Phase, Rest, Asking, Wanting, Loading, Locking, Validating, Storing, Refusing}
-use Rattle.rl_worker.specs.Items.{CoreItem}
-use Rattle.rl_worker.specs.Acts.{Core, CoreRefusal, Step, Idle, phase_of, resting, is_done, turn}
+use Rattle.rl_worker.specs.Acts.{Core, Step, Idle, phase_of, resting, is_done, turn}
+use Rattle.rl_worker.specs.OneTurn.{newly_ended, newly_refused}
 use Rattle.rl_worker.specs.Opening.{item_seen}
 use Rattle.rl_nodes.specs.declared.node_error.NodeError.TheVariants.{StreamFull}
 use Rattle.rl_nodes.specs.Answers.{Answer, sending, quiet, to_each}
@@ -44,24 +44,8 @@ request_in (Wanting q reads r) = q
 request_in (Loading q reads r seen loaded) = q
 request_in (Locking q reads answer locked todo) = q
 request_in (Validating q t done todo answer writes) = q
-request_in (Storing q t stored todo) = q
+request_in (Storing item stored todo) = item.index
 request_in (Refusing q todo) = q
-
--- the decided item of a request of worker w
-abbrev pub item_decided : (epoch : ℕ) → Core → (w q : ℕ) → Option Item
-item_decided epoch core w q =
-    option_map (item_seen epoch) (find (λ (x : CoreItem). (x.worker == w) && (x.index == q)) core.decided)
-
--- the item that has ended in a turn of worker w, if one has: its worker is at the next request then
-abbrev pub ended_item : (epoch : ℕ) → (before after : Core) → (w : ℕ) → Option Item
-ended_item epoch before after w =
-    let q = request_in (phase_of before w) in
-    if request_in (phase_of after w) == suc q then item_decided epoch after w q else None
-
--- the attempt that was refused in a turn, if one was
-abbrev pub refused_in : (before after : Core) → Option CoreRefusal
-refused_in before after =
-    if nat_lt (length before.refusals) (length after.refusals) then slice_get after.refusals 0 else None
 
 -- ---- a step ----
 
@@ -69,7 +53,7 @@ refused_in before after =
 abbrev pub stepped : Lead → (before after : Core) → (w : ℕ) → Lead
 stepped lead before after w =
     with_pending (record lead { core = Some after }) w
-    (pending_of lead w ++ option_to_list (ended_item lead.epoch before after w))
+    (pending_of lead w ++ option_to_list (option_map (item_seen lead.epoch) (newly_ended before after)))
 
 -- as many pending items as make a batch are proposed at once
 abbrev pub proposes_full : Setup → (a : ℕ) → NodeState → Lead → (w : ℕ) → Answer
@@ -81,7 +65,7 @@ proposes_full setup a x lead w =
 abbrev pub steps_core : Setup → (a : ℕ) → NodeState → Lead → (w : ℕ) → Core → Answer
 steps_core setup a x lead w core =
     let after = turn (setup.work.setting lead.epoch) core (Step w) in
-    proposes_full setup a x (stepped lead core after w) w >>= λ did. Ok (record did { refusal = refused_in core after })
+    proposes_full setup a x (stepped lead core after w) w >>= λ did. Ok (record did { refusal = newly_refused core after })
 
 -- ---- an idle mark ----
 
