@@ -16,8 +16,8 @@ pub line_joined : (first : List ℕ) (words more : List (List ℕ)) (before old 
 line_joined first words more before old new is gone_on =
     let spaced : List (List ℕ) → List ℕ = flat_map (λ w. 32 ∷ w) in
     let whole : line_of (first ∷ words ++ more) ≡ line_of (first ∷ words) ++ spaced more =
-        line_by_words first (words ++ more) ∙ ap (λ t. first ++ t) (flat_map-append (λ w. 32 ∷ w) words more)
-        ∙ sym (append_assoc first (spaced words) (spaced more)) ∙ ap (λ t. t ++ spaced more) (sym (line_by_words first words)) in
+    line_by_words first (words ++ more) ∙ ap (λ t. first ++ t) (flat_map-append (λ w. 32 ∷ w) words more)
+    ∙ sym (append_assoc first (spaced words) (spaced more)) ∙ ap (λ t. t ++ spaced more) (sym (line_by_words first words)) in
     gone_on ∙ ap (λ t. t ++ spaced more) is ∙ append_assoc before (line_of (first ∷ words)) (spaced more) ∙ ap (λ t. before ++ t) (sym whole)
 
 -- and with the word of each thing
