@@ -3,6 +3,7 @@ use Rattle.std.proofs.Common.{◌≡◌, ℕ, zero, suc, List, [], ◌∷◌, ma
 use Rattle.std.specs.Prelude.{Option, Some, None}
 use mathlib.Core.Option.{some, some-ne-none, some-injective}
 use lib.ListN.{get_elem?}
+pub use Rattle.atomic_table.proofs.Lists.{at_index, at_longer, at_map, drop_at}
 use Rattle.rl_store.specs.declared.view.Attempt.{Attempt}
 use Rattle.rl_store.specs.Entries.{In, Entry, drawn_entry, of_attempt}
 

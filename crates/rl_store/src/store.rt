@@ -1,6 +1,6 @@
 //! The shared words, and reads of records.
 
-ghost use Rattle.std.specs.Prelude.{◌≡◌, ◌≢◌, ◌+◌, ◌*◌, ◌/◌, ◌%◌, ◌<◌, ◌≤◌, [], None, Some, length, slice_index, IfOk, IfErr};
+ghost use Rattle.std.specs.Prelude.{◌≡◌, ◌≢◌, ◌+◌, ◌*◌, ◌/◌, ◌%◌, ◌^◌, ◌<◌, ◌≤◌, [], None, Some, length, slice_index, IfOk, IfErr};
 ghost use Rattle.rl_base.specs.Words.{stamp_in};
 ghost use Rattle.rl_value.specs.Cells.{row_of};
 ghost use Rattle.rl_store.specs.Entries.{IsDecided};
@@ -47,6 +47,14 @@ pub struct Observed {
 }
 
 impl Store {
+    /// The epoch of its stamps.
+    pub fn epoch(&self) -> u32
+        ensures epoch { result ≡ self.now.made.epoch }
+        ensures few { result < 2 ^ 20 }
+    {
+        self.epoch
+    }
+
     /// Reads a record: its word, presence and columns, and its word again. It is refused where the word is locked, or
     /// is another at the end.
     pub fn observe(&self, pass: &mut Pass, rec: u32) -> Result<Observed, Refusal>

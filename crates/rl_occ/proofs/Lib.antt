@@ -1,0 +1,10 @@
+pub mod Counting
+pub mod Releasing
+pub mod Places
+pub mod Locks
+pub mod Validations
+pub mod Installations
+pub mod Finishes
+pub mod Runs
+pub mod Phases
+pub mod Commits
