@@ -73,7 +73,8 @@ impl Records {
         if is_locked(word) {
             return false;
         }
-        if update.stamp <= stamp_of(word) {
+        let is_older = update.stamp <= stamp_of(word);
+        if is_older {
             self.let_go(seat, update, word);
         } else {
             self.store_cells(seat, update);
