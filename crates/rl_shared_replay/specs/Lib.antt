@@ -1,0 +1,10 @@
+pub mod Layout
+pub mod Views
+pub mod Rule
+pub mod Start
+pub mod Steps
+pub mod Calls
+pub mod Jobs
+pub mod Opening
+pub mod Ends
+pub mod Replayable
