@@ -1,20 +1,9 @@
 -- Updates of functions, tests, and lists of writes.
-use Rattle.std.proofs.Common.{◌≡◌, ◌≢◌, ◌⊎◌, ℕ, List, [], ◌∷◌, ◌++◌, true, false, Some, None, refl, sym, arith, inl, inr, eq-eqb, ne_eqb, true≢false, ◌<◌, ◌≤◌, Bool, nat_lt, if◌then◌else◌, zero, suc, get_or}
+use Rattle.std.proofs.Common.{◌≡◌, ◌⊎◌, ℕ, List, [], ◌∷◌, ◌++◌, true, false, Some, None, refl, sym, arith, inl, inr, eq-eqb, true≢false, ◌<◌, ◌≤◌, Bool, nat_lt, if◌then◌else◌, zero, suc, get_or}
 use Rattle.std.proofs.lemmas.Bool.Decides.{eqb_tells, nat_tests}
 use Rattle.rl_worker.specs.Acts.{resting}
-use Rattle.rl_worker.proofs.States.{Install, Phase, Rest, upd, has, row_at}
+use Rattle.rl_worker.proofs.States.{Install, Phase, Rest, has, row_at}
 use Rattle.rl_worker.proofs.OwnLaw.{AllRest}
-
-pub upd_same : {A : Type 0} (f : ℕ → A) (i : ℕ) (x : A) → upd f i x i ≡ x
-upd_same f i x = rw (eq-eqb i i refl)
-
-pub upd_other : {A : Type 0} (f : ℕ → A) (i : ℕ) (x : A) (j : ℕ) → j ≢ i → upd f i x j ≡ f j
-upd_other f i x j n = rw (ne_eqb j i n)
-
--- what holds of the new value at i, and of the old ones elsewhere, holds everywhere
-pub by_upd : {A : Type 0} (P : A → Type 0) (f : ℕ → A) (i : ℕ) (x : A) (j : ℕ) → (j ≡ i → P x) → (j ≢ i → P (f j)) → P (upd f i x j)
-by_upd P f i x j here there =
-    elim (eqb_tells j i) [ inl e ↦ rw e.0 (here e.1) | inr e ↦ rw e.0 (there e.1) ]
 
 pub has_append : (r : ℕ) (xs : List Install) (x : Install) → has r (xs ++ x ∷ []) ≡ true → (has r xs ≡ true) ⊎ (r ≡ x.rec)
 has_append r [] x h = elim (eqb_tells r x.rec) [ inl e ↦ inr e.1 | inr e ↦ inl (rw e.0 at h) ]

@@ -2,17 +2,19 @@
 use Rattle.std.proofs.Common.{◌≡◌, ◌⊎◌, ℕ, zero, suc, ◌+◌, ◌<◌, ◌≤◌, List, [], ◌∷◌, ◌++◌, length, get_or, set, true, false, ◌==◌, nat_lt, Option, Some, None, refl, sym, ap, ◌∙◌, subst, arith, inl, inr, true≢false, eqb-true, get_or-set_other, get_or-set_same, length-set, eq-eqb, is_some}
 use Rattle.std.proofs.lemmas.List.{get_or_past}
 use Rattle.std.proofs.lemmas.Bool.{cases_lt}
+use Rattle.rl_base.specs.Lists.{updated}
+use Rattle.rl_base.proofs.UpdateLemmas.{updated_same, updated_other, by_updated}
 use Rattle.rl_worker.proofs.Installs.{none_some}
 use Rattle.rl_worker.proofs.Inv.{held, Distinct}
 use Rattle.std.proofs.lemmas.Bool.Decides.{eqb_tells}
 use mathlib.Core.Path.{fun_ext}
-use Rattle.rl_worker.proofs.States.{Answer, Read, Install, Rec, Void, Drawn, Decided, Entry, Ends, Phase, Rest, Asking, Wanting, Loading, Locking, Validating, Storing, Refusing, State, upd, has, with_read, goes, sets, asked, other}
+use Rattle.rl_worker.proofs.States.{Answer, Read, Install, Rec, Void, Drawn, Decided, Entry, Ends, Phase, Rest, Asking, Wanting, Loading, Locking, Validating, Storing, Refusing, State, has, with_read, goes, sets, asked, other}
 use Rattle.rl_worker.specs.Items.{insert_by_stamp}
 use Rattle.rl_worker.specs.Laws.{IsTrueCause, AllTrue}
 use Rattle.rl_worker.specs.Acts.{Cause, Locked, Changed, Effect, Quiet, Drew, Won, Ended, Lost, quiet, lost, act_result, Core, no_rec}
 use Rattle.rl_worker.specs.Attempts.{next_after}
 use Rattle.rl_worker.proofs.Parts.{decided_after, refusals_after, parts, micro_at}
-use Rattle.rl_worker.proofs.Basics.{upd_same, upd_other, by_upd, by_test, test_lt, test_ge}
+use Rattle.rl_worker.proofs.Basics.{by_test, test_lt, test_ge}
 use Rattle.rl_worker.proofs.Inv.{Inv, Knows}
 use Rattle.rl_worker.proofs.Local.{Lawful, begin_inv, give_up_inv, give_up_load_inv, ask_inv, first_load_inv, column_load_inv, confirm_inv, lock_refused_inv, validate_inv, rest_inv, released_inv}
 use Rattle.rl_worker.proofs.Installs.{lock_inv, store_inv, free_inv, close_inv}
@@ -23,10 +25,10 @@ use Rattle.rl_worker.proofs.OwnLaw.{Ground}
 abbrev pub lift : Core → (ℕ → Entry) → State
 lift c log = record { recs = λ r. get_or c.recs r no_rec; workers = λ w. get_or c.workers w (Rest 0); log = log; next = c.next }
 
-pub set_reads : {A : Type 0} (xs : List A) (k : ℕ) (x d : A) → k < length xs → (λ r. get_or (set xs k x) r d) ≡ upd (λ r. get_or xs r d) k x
+pub set_reads : {A : Type 0} (xs : List A) (k : ℕ) (x d : A) → k < length xs → (λ r. get_or (set xs k x) r d) ≡ updated (λ r. get_or xs r d) k x
 set_reads xs k x d h = fun_ext (λ r. elim (eqb_tells r k) [
-  | inl i ↦ rw (i.1, get_or-set_same xs k x d h, upd_same (λ r. get_or xs r d) k x) refl
-  | inr n ↦ rw (get_or-set_other xs k r x d n.1, upd_other (λ r. get_or xs r d) k x r n.1) refl
+  | inl i ↦ rw (i.1, get_or-set_same xs k x d h, updated_same (λ r. get_or xs r d) k x) refl
+  | inr n ↦ rw (get_or-set_other xs k r x d n.1, updated_other (λ r. get_or xs r d) k x r n.1) refl
 ])
 
 pub set_back : {A : Type 0} (xs : List A) (k : ℕ) (d : A) → set xs k (get_or xs k d) ≡ xs
@@ -37,8 +39,8 @@ set_back (x ∷ xs) (suc k) d = ap (λ z. x ∷ z) (set_back xs k d)
 pub same_state : (a b : State) → a.recs ≡ b.recs → a.workers ≡ b.workers → a.log ≡ b.log → a.next ≡ b.next → a ≡ b
 same_state a b p q r s = λ i. record { recs = p i; workers = q i; log = r i; next = s i }
 
-pub upd_back : {A : Type 0} (f : ℕ → A) (k : ℕ) → upd f k (f k) ≡ f
-upd_back f k = fun_ext (λ r. by_upd (λ z. z ≡ f r) f k (f k) r (λ i. rw i refl) (λ n. refl))
+pub updated_back : {A : Type 0} (f : ℕ → A) (k : ℕ) → updated f k (f k) ≡ f
+updated_back f k = fun_ext (λ r. by_updated (λ z. z ≡ f r) f k (f k) r (λ i. rw i refl) (λ n. refl))
 
 pub held_in : (xs : List Rec) (k w : ℕ) → (get_or xs k no_rec).holder ≡ Some w → k < length xs
 held_in xs k w h = elim (cases_lt k (length xs)) [ inl a ↦ a | inr b ↦ absurd (none_some w (rw (get_or_past xs k no_rec b) at h)) ]
@@ -72,21 +74,21 @@ module _ (G : Ground) where
     abbrev σ : State
     σ = lift c g.log
 
-    recs_path : (k : ℕ) (x : Rec) → (k < length c.recs) ⊎ (x ≡ get_or c.recs k no_rec) → (λ r. get_or (set c.recs k x) r no_rec) ≡ upd σ.recs k x
+    recs_path : (k : ℕ) (x : Rec) → (k < length c.recs) ⊎ (x ≡ get_or c.recs k no_rec) → (λ r. get_or (set c.recs k x) r no_rec) ≡ updated σ.recs k x
     recs_path k x h = elim h [
       | inl a ↦ set_reads c.recs k x no_rec a
-      | inr e ↦ rw (e, set_back c.recs k no_rec, upd_back σ.recs k) refl
+      | inr e ↦ rw (e, set_back c.recs k no_rec, updated_back σ.recs k) refl
     ]
 
     good_of : (k : ℕ) (x : Rec) (p : Phase) (ev : Effect) → (k < length c.recs) ⊎ (x ≡ get_or c.recs k no_rec) → (log : ℕ → Entry) (count : ℕ)
-        → Inv G (record { recs = upd σ.recs k x; workers = upd σ.workers w p; log = log; next = next_after c.next ev })
+        → Inv G (record { recs = updated σ.recs k x; workers = updated σ.workers w p; log = log; next = next_after c.next ev })
         → G.setting.base + count ≡ next_after c.next ev → decided_after c.decided ev ≡ items_from log G.setting.base count → AllTrue (refusals_after c.refusals ev)
         → Good (parts c w k (record { phase = p; rec = x; effect = ev }))
     good_of k x p ev h log count i n d t = record {
       log = log;
       count = count;
       count_is = n;
-      inv = subst (Inv G) (sym (same_state (lift (parts c w k (record { phase = p; rec = x; effect = ev })) log) (record { recs = upd σ.recs k x; workers = upd σ.workers w p; log = log; next = next_after c.next ev })
+      inv = subst (Inv G) (sym (same_state (lift (parts c w k (record { phase = p; rec = x; effect = ev })) log) (record { recs = updated σ.recs k x; workers = updated σ.workers w p; log = log; next = next_after c.next ev })
           (recs_path k x h) (set_reads c.workers w p (Rest 0) hw) refl refl)) i;
       items = d;
       inside = λ v q given answer writes e r m. rw length-set (g.inside v q given answer writes e r m);
@@ -95,10 +97,10 @@ module _ (G : Ground) where
 
     -- the acts that leave the records
     local_good : (k : ℕ) (p : Phase) → Inv G (goes σ w p) → Good (parts c w k (quiet (get_or c.recs k no_rec) p))
-    local_good k p i = good_of k (get_or c.recs k no_rec) p Quiet (inr refl) g.log g.count (rw (upd_back σ.recs k) i) g.count_is g.items g.causes
+    local_good k p i = good_of k (get_or c.recs k no_rec) p Quiet (inr refl) g.log g.count (rw (updated_back σ.recs k) i) g.count_is g.items g.causes
 
     lost_good : (q k : ℕ) (p : Phase) (cause : Cause) → IsTrueCause w cause → Inv G (goes σ w p) → Good (parts c w k (lost (get_or c.recs k no_rec) p w q k cause))
-    lost_good q k p cause t i = good_of k (get_or c.recs k no_rec) p (Lost (record { worker = w; index = q; rec = k; cause = cause })) (inr refl) g.log g.count (rw (upd_back σ.recs k) i) g.count_is g.items (t, g.causes)
+    lost_good q k p cause t i = good_of k (get_or c.recs k no_rec) p (Lost (record { worker = w; index = q; rec = k; cause = cause })) (inr refl) g.log g.count (rw (updated_back σ.recs k) i) g.count_is g.items (t, g.causes)
 
     sets_good : (k : ℕ) (x : Rec) (p : Phase) → k < length c.recs → Inv G (sets σ k x w p) → Good (parts c w k (quiet x p))
     sets_good k x p h i = good_of k x p Quiet (inl h) g.log g.count i g.count_is g.items g.causes
@@ -150,7 +152,7 @@ module _ (G : Ground) where
     draw_good q reads answer locked e =
         let x : Entry = record { worker = w; index = q; reads = reads; answer = answer; writes = locked; status = Drawn } in
         good_of 0 (get_or c.recs 0 no_rec) (Validating q c.next [] reads answer locked) Drew (inr refl)
-        (upd g.log c.next x) (suc g.count) (rw (upd_back σ.recs 0) (draw_inv G L σ w q reads answer locked g.inv e)) (omega (arith, g.count_is))
+        (updated g.log c.next x) (suc g.count) (rw (updated_back σ.recs 0) (draw_inv G L σ w q reads answer locked g.inv e)) (omega (arith, g.count_is))
         (g.items ∙ sym (items_drawn g.log c.next x g.count G.setting.base refl g.count_is)) g.causes
 
     win_good : (q t : ℕ) (done : List Read) (answer : Answer) (writes : List Install) → σ.workers w ≡ Validating q t done [] answer writes
@@ -160,7 +162,7 @@ module _ (G : Ground) where
         let past : (G.setting.base ≤ t) × (t < c.next) = g.inv.past t (rw kn.logged refl) in
         let is : item t (g.log t) ≡ record { stamp = t; worker = w; index = q; answer = answer; writes = writes } = ap (λ (z : Entry). item t z) kn.logged in
         good_of 0 (get_or c.recs 0 no_rec) (Storing (record { stamp = t; worker = w; index = q; answer = answer; writes = writes }) 0 writes) (Won (record { stamp = t; worker = w; index = q; answer = answer; writes = writes })) (inr refl)
-        (upd g.log t (record (g.log t) { status = Decided })) g.count (rw (upd_back σ.recs 0) (decide_inv G L σ w q t done answer writes g.inv e)) g.count_is
+        (updated g.log t (record (g.log t) { status = Decided })) g.count (rw (updated_back σ.recs 0) (decide_inv G L σ w q t done answer writes g.inv e)) g.count_is
         (ap (insert_by_stamp (record { stamp = t; worker = w; index = q; answer = answer; writes = writes })) g.items
         ∙ ap (λ z. insert_by_stamp z (items_from g.log G.setting.base g.count)) (sym is)
         ∙ sym (items_decided g.log t g.count G.setting.base (rw kn.logged refl) past.0 (omega (arith, g.count_is, past.1)))) g.causes
@@ -171,7 +173,7 @@ module _ (G : Ground) where
     lose_good q t done y todo answer writes cause true_ e =
         let kn : Knows G σ w (Validating q t done (y ∷ todo) answer writes) = rw e at (g.inv.knows w) in
         good_of y.rec (get_or c.recs y.rec no_rec) (Refusing q writes) (Lost (record { worker = w; index = q; rec = y.rec; cause = cause })) (inr refl)
-        (upd g.log t (record (g.log t) { status = Void })) g.count (rw (upd_back σ.recs y.rec) (void_inv G L σ w q t done (y ∷ todo) answer writes g.inv e)) g.count_is
+        (updated g.log t (record (g.log t) { status = Void })) g.count (rw (updated_back σ.recs y.rec) (void_inv G L σ w q t done (y ∷ todo) answer writes g.inv e)) g.count_is
         (g.items ∙ sym (items_voided g.log t g.count G.setting.base (rw kn.logged refl))) (true_, g.causes)
 
     pub micro_good : (p : Phase) → σ.workers w ≡ p → Good (micro_at G.setting c w p)
@@ -197,7 +199,7 @@ module _ (G : Ground) where
         (λ s. sets_good y.rec (record { stamp = item.stamp; holder = None; cells = (σ.recs y.rec).cells }) (Storing item 0 todo) here
         (close_inv G L σ w item j y todo g.inv e (test_ge j (length y.row) s)))
     micro_good (Storing item j []) e =
-        good_of 0 (get_or c.recs 0 no_rec) (Rest (suc item.index)) (Ended item) (inr refl) g.log g.count (rw (upd_back σ.recs 0) (rest_inv G L σ w item j g.inv e)) g.count_is g.items g.causes
+        good_of 0 (get_or c.recs 0 no_rec) (Rest (suc item.index)) (Ended item) (inr refl) g.log g.count (rw (updated_back σ.recs 0) (rest_inv G L σ w item j g.inv e)) g.count_is g.items g.causes
     micro_good (Refusing q (y ∷ todo)) e =
         let kn : Knows G σ w (Refusing q (y ∷ todo)) = rw e at (g.inv.knows w) in
         let here : y.rec < length c.recs = held_in c.recs y.rec w (kn.holds y.rec (rw (eq-eqb y.rec y.rec refl) refl)) in

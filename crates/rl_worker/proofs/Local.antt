@@ -2,10 +2,11 @@
 use Rattle.std.proofs.Common.{◌≡◌, ℕ, suc, ◌<◌, ◌≤◌, List, [], ◌∷◌, ◌++◌, length, get_or, take, Bool, true, false, not, ◌==◌, nat_lt, ◌&&◌, if◌then◌else◌, Option, Some, None, refl, sym, ap, ◌∙◌, arith, inl, inr, true≢false, length-append, append_assoc}
 use Rattle.std.proofs.lemmas.Grind.{common_steps}
 use Rattle.std.proofs.lemmas.Bool.Decides.{eqb_tells}
-use Rattle.rl_worker.proofs.States.{Answer, Read, Install, Status, Void, Drawn, Decided, Outcome, Wants, Ends, Phase, Rest, Asking, Wanting, Loading, Locking, Validating, Storing, Refusing, State, upd, has, with_read, live, decided, goes, asked}
+use Rattle.rl_base.specs.Lists.{updated}
+use Rattle.rl_base.proofs.UpdateLemmas.{by_updated}
+use Rattle.rl_worker.proofs.States.{Answer, Read, Install, Status, Void, Drawn, Decided, Outcome, Wants, Ends, Phase, Rest, Asking, Wanting, Loading, Locking, Validating, Storing, Refusing, State, has, with_read, live, decided, goes, asked}
 use Rattle.rl_worker.proofs.Inv.{held, stores, pending, settled_by, settled, Distinct, Version, Alone, Seen, AllAlone, ReadsOk, Knows, Inv}
 use Rattle.rl_worker.specs.Items.{CoreItem}
-use Rattle.rl_worker.proofs.Basics.{by_upd}
 use Rattle.rl_worker.proofs.Keeps.{Keeps, knows_kept, final_kept}
 pub use Rattle.rl_worker.proofs.OwnLaw.{Ground, Lawful}
 
@@ -14,9 +15,9 @@ decided_lives Void h = h
 decided_lives Drawn h = refl
 decided_lives Decided h = refl
 
-pub settled_goes : (ws : ℕ → Phase) (w : ℕ) (p : Phase) (h : Option ℕ) (r : ℕ) → stores p r ≡ stores (ws w) r → settled_by (upd ws w p) h r ≡ settled_by ws h r
+pub settled_goes : (ws : ℕ → Phase) (w : ℕ) (p : Phase) (h : Option ℕ) (r : ℕ) → stores p r ≡ stores (ws w) r → settled_by (updated ws w p) h r ≡ settled_by ws h r
 settled_goes ws w p None r e = refl
-settled_goes ws w p (Some v) r e = by_upd (λ x. not (stores x r) ≡ not (stores (ws v) r)) ws w p v (λ i. rw i (ap not e)) (λ n. refl)
+settled_goes ws w p (Some v) r e = by_updated (λ x. not (stores x r) ≡ not (stores (ws v) r)) ws w p v (λ i. rw i (ap not e)) (λ n. refl)
 
 pub and_false : (b : Bool) → (b && false) ≡ true → ⊥
 and_false true h = true≢false (sym h)
@@ -56,17 +57,17 @@ module _ (G : Ground) (L : Lawful G) where
       → ((u r : ℕ) → pending (σ.workers w) u r ≡ true → pending p u r ≡ true)
       → Knows G σ w p → Inv G (goes σ w p)
   goes_inv σ w p inv he st pe kn = record {
-    knows = λ v. by_upd (λ x. Knows G (goes σ w p) v x) σ.workers w p v
+    knows = λ v. by_updated (λ x. Knows G (goes σ w p) v x) σ.workers w p v
         (λ e. rw e (knows_kept G σ (goes σ w p) (suc w) (goes_keeps σ w p st (suc w)) w (omega arith) p kn))
         (λ n. knows_kept G σ (goes σ w p) w (goes_keeps σ w p st w) v n (σ.workers v) (inv.knows v));
-    owner = λ r v e. by_upd (λ x. held x r ≡ true) σ.workers w p v (λ i. he r (rw i at (inv.owner r v e))) (λ n. inv.owner r v e);
+    owner = λ r v e. by_updated (λ x. held x r ≡ true) σ.workers w p v (λ i. he r (rw i at (inv.owner r v e))) (λ n. inv.owner r v e);
     width_is = inv.width_is;
     based = inv.based;
     fresh = inv.fresh;
     content = λ r s. inv.content r (sym (settled_goes σ.workers w p (σ.recs r).holder r (st r)) ∙ s);
     drawn = λ t r l h. elim (inv.drawn t r l h) [
       | inl a ↦ inl a
-      | inr b ↦ inr (by_upd (λ x. pending x t r ≡ true) σ.workers w p (σ.log t).worker (λ i. pe t r (rw i at b)) (λ n. b))
+      | inr b ↦ inr (by_updated (λ x. pending x t r ≡ true) σ.workers w p (σ.log t).worker (λ i. pe t r (rw i at b)) (λ n. b))
     ];
     past = inv.past;
     final = λ t d. final_kept G σ (goes σ w p) w (goes_keeps σ w p st w) t (omega (arith, (inv.past t (decided_lives (σ.log t).status d)).1)) refl (inv.final t d);

@@ -1,14 +1,16 @@
 -- Each worker's stamps rise, over its items and idle draws.
 use Rattle.std.proofs.Common.{◌≡◌, ◌≢◌, ℕ, suc, ◌<◌, ◌≤◌, List, [], ◌∷◌, length, get_or, true, ◌==◌, nat_lt, refl, sym, ap, subst, arith, inl, inr, true≢false, length-set, is_some}
 use Rattle.std.proofs.lemmas.Bool.Decides.{eqb_tells}
-use Rattle.rl_worker.proofs.States.{Answer, Read, Install, Rec, Outcome, Wants, Ends, Phase, Rest, Asking, Wanting, Loading, Locking, Validating, Storing, Refusing, Setting, asked, other, upd}
+use Rattle.rl_base.specs.Lists.{updated}
+use Rattle.rl_base.proofs.UpdateLemmas.{by_updated}
+use Rattle.rl_worker.proofs.States.{Answer, Read, Install, Rec, Outcome, Wants, Ends, Phase, Rest, Asking, Wanting, Loading, Locking, Validating, Storing, Refusing, Setting, asked, other}
 use Rattle.rl_worker.specs.Acts.{ActResult, target, act_result, Core, no_rec, phase_of, opening_core, idle, resting, micro, passing, settle, begin, step, is_done, may, Turn, Step, Idle, turn, after_turns}
 use Rattle.rl_worker.specs.Attempts.{next_after}
 use Rattle.rl_worker.proofs.Parts.{micro_parts, made_after, parts, micro_at, step_on}
 use Rattle.rl_worker.specs.Laws.{stamps_by, AllUnder, IsFalling, DrawnAbove, IsBelowNext}
 use Rattle.rl_worker.proofs.OwnLaw.{AllRest}
 use Rattle.rl_worker.proofs.Whole.{there}
-use Rattle.rl_worker.proofs.Basics.{by_upd, by_test, rest_at}
+use Rattle.rl_worker.proofs.Basics.{by_test, rest_at}
 use Rattle.rl_worker.proofs.Lift.{set_reads}
 
 under_up : (t u : ℕ) (xs : List ℕ) → t ≤ u → AllUnder t xs → AllUnder u xs
@@ -47,7 +49,7 @@ pub record MadeOk (c : Core) : Type 0 where
   pub drawn : (w : ℕ) → DrawnAbove (phase_of c w) (stamps_by w c.made) c.next
 
 module _ (S : Setting) (c : Core) (g : MadeOk c) (w : ℕ) (hw : w < length c.workers) where
-  phase_after : (k : ℕ) (m : ActResult) (v : ℕ) → phase_of (parts c w k m) v ≡ upd (λ u. get_or c.workers u (Rest 0)) w m.phase v
+  phase_after : (k : ℕ) (m : ActResult) (v : ℕ) → phase_of (parts c w k m) v ≡ updated (λ u. get_or c.workers u (Rest 0)) w m.phase v
   phase_after k m v = ap (λ f. f v) (set_reads c.workers w m.phase (Rest 0) hw)
 
   -- an act that makes and draws nothing
@@ -56,7 +58,7 @@ module _ (S : Setting) (c : Core) (g : MadeOk c) (w : ℕ) (hw : w < length c.wo
   plain k p m e d n late = record {
     falling = λ v. rw d (g.falling v);
     below = λ v. rw (d, n) (g.below v);
-    drawn = λ v. rw (phase_after, d, n) (by_upd (λ z. DrawnAbove z (stamps_by v c.made) c.next) (λ u. get_or c.workers u (Rest 0)) w m.phase v
+    drawn = λ v. rw (phase_after, d, n) (by_updated (λ z. DrawnAbove z (stamps_by v c.made) c.next) (λ u. get_or c.workers u (Rest 0)) w m.phase v
         (λ i. rw i (late (rw e at (g.drawn w)))) (λ o. g.drawn v));
   }
 
@@ -67,7 +69,7 @@ module _ (S : Setting) (c : Core) (g : MadeOk c) (w : ℕ) (hw : w < length c.wo
       record {
         falling = g.falling;
         below = λ v. under_up c.next (suc c.next) (stamps_by v c.made) (omega arith) (g.below v);
-        drawn = λ v. rw phase_after (by_upd (λ z. DrawnAbove z (stamps_by v c.made) (suc c.next)) (λ u. get_or c.workers u (Rest 0)) w m.phase v
+        drawn = λ v. rw phase_after (by_updated (λ z. DrawnAbove z (stamps_by v c.made) (suc c.next)) (λ u. get_or c.workers u (Rest 0)) w m.phase v
             (λ i. (omega arith, g.below v)) (λ o. above_up (phase_of c v) (stamps_by v c.made) c.next (g.drawn v)));
       }
 
@@ -85,7 +87,7 @@ module _ (S : Setting) (c : Core) (g : MadeOk c) (w : ℕ) (hw : w < length c.wo
           | inl i ↦ subst (AllUnder c.next) (sym (stamps_own v w t c.made i.1)) (mine.0, g.below w)
           | inr n ↦ rw (stamps_other v w t c.made n.1) (g.below v)
         ];
-        drawn = λ v. rw phase_after (by_upd (λ z. DrawnAbove z (stamps_by v ((w, t) ∷ c.made)) c.next) (λ u. get_or c.workers u (Rest 0)) w m.phase v
+        drawn = λ v. rw phase_after (by_updated (λ z. DrawnAbove z (stamps_by v ((w, t) ∷ c.made)) c.next) (λ u. get_or c.workers u (Rest 0)) w m.phase v
             (λ i. tt) (λ o. rw (stamps_other v w t c.made o) (g.drawn v)));
       }
 

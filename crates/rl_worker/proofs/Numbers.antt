@@ -1,13 +1,15 @@
 -- Each worker's items are its requests, in order and none twice.
 use Rattle.std.proofs.Common.{◌≡◌, ◌≢◌, ℕ, zero, suc, ◌+◌, ◌<◌, ◌≤◌, List, [], ◌∷◌, ◌++◌, length, get_or, ◌==◌, nat_lt, if◌then◌else◌, refl, sym, ap, ◌∙◌, arith, inl, inr, length-set, is_some}
 use Rattle.std.proofs.lemmas.Bool.Decides.{eqb_tells}
-use Rattle.rl_worker.proofs.States.{Answer, Read, Install, Rec, Outcome, Wants, Ends, Phase, Rest, Asking, Wanting, Loading, Locking, Validating, Storing, Refusing, Setting, asked, other, upd}
+use Rattle.rl_base.specs.Lists.{updated}
+use Rattle.rl_base.proofs.UpdateLemmas.{updated_same, updated_other, by_updated}
+use Rattle.rl_worker.proofs.States.{Answer, Read, Install, Rec, Outcome, Wants, Ends, Phase, Rest, Asking, Wanting, Loading, Locking, Validating, Storing, Refusing, Setting, asked, other}
 use Rattle.rl_worker.specs.Items.{CoreItem, insert_by_stamp}
 use Rattle.rl_worker.specs.Acts.{ActResult, target, act_result, Core, no_rec, phase_of, opening_core, idle, resting}
 use Rattle.rl_worker.specs.Attempts.{next_after}
 use Rattle.rl_worker.proofs.Parts.{decided_after, parts, micro_at}
 use Rattle.rl_worker.proofs.OwnLaw.{Rising, indexes, upto, InLists}
-use Rattle.rl_worker.proofs.Basics.{by_upd, upd_same, upd_other, by_test, test_lt}
+use Rattle.rl_worker.proofs.Basics.{by_test, test_lt}
 use Rattle.rl_worker.proofs.Lift.{set_reads}
 
 -- the index of the request to come, once the present attempt is decided or not
@@ -95,7 +97,7 @@ module _ (first : ℕ → ℕ) where
     pub below : AllBelow c.next c.decided
 
   module _ (S : Setting) (c : Core) (b : ℕ) (rise : Rising b c.decided) (g : Numbered c) (w : ℕ) (hw : w < length c.workers) where
-    phase_after : (k : ℕ) (m : ActResult) (v : ℕ) → phase_of (parts c w k m) v ≡ upd (λ u. get_or c.workers u (Rest 0)) w m.phase v
+    phase_after : (k : ℕ) (m : ActResult) (v : ℕ) → phase_of (parts c w k m) v ≡ updated (λ u. get_or c.workers u (Rest 0)) w m.phase v
     phase_after k m v = ap (λ f. f v) (set_reads c.workers w m.phase (Rest 0) hw)
 
     -- an act that decides and draws nothing
@@ -104,9 +106,9 @@ module _ (first : ℕ → ℕ) where
     plain k p m e d n same late = record {
       count = g.count;
       lists = λ v. rw d (g.lists v);
-      numbers = λ v l. rw phase_after (by_upd (λ z. number z ≡ first v + g.count v) (λ u. get_or c.workers u (Rest 0)) w m.phase v
+      numbers = λ v l. rw phase_after (by_updated (λ z. number z ≡ first v + g.count v) (λ u. get_or c.workers u (Rest 0)) w m.phase v
           (λ i. same ∙ ap number (sym e) ∙ g.numbers w hw ∙ ap (λ z. first z + g.count z) (sym i)) (λ o. g.numbers v (rw length-set at l)));
-      latest = λ v. rw (phase_after, d, n) (by_upd (λ z. Latest z v c.decided c.next) (λ u. get_or c.workers u (Rest 0)) w m.phase v
+      latest = λ v. rw (phase_after, d, n) (by_updated (λ z. Latest z v c.decided c.next) (λ u. get_or c.workers u (Rest 0)) w m.phase v
           (λ i. rw i (late (rw e at (g.latest w)))) (λ o. g.latest v));
       below = rw (d, n) g.below;
     }
@@ -118,9 +120,9 @@ module _ (first : ℕ → ℕ) where
         record {
           count = g.count;
           lists = g.lists;
-          numbers = λ v l. rw phase_after (by_upd (λ z. number z ≡ first v + g.count v) (λ u. get_or c.workers u (Rest 0)) w m.phase v
+          numbers = λ v l. rw phase_after (by_updated (λ z. number z ≡ first v + g.count v) (λ u. get_or c.workers u (Rest 0)) w m.phase v
               (λ i. ap number (sym e) ∙ g.numbers w hw ∙ ap (λ z. first z + g.count z) (sym i)) (λ o. g.numbers v (rw length-set at l)));
-          latest = λ v. rw phase_after (by_upd (λ z. Latest z v c.decided (suc c.next)) (λ u. get_or c.workers u (Rest 0)) w m.phase v
+          latest = λ v. rw phase_after (by_updated (λ z. Latest z v c.decided (suc c.next)) (λ u. get_or c.workers u (Rest 0)) w m.phase v
               (λ i. (omega arith, below_of v c.next c.decided g.below)) (λ o. latest_up (phase_of c v) v (g.latest v)));
           below = all_below_up c.next (suc c.next) c.decided (omega arith) g.below;
         }
@@ -143,16 +145,16 @@ module _ (first : ℕ → ℕ) where
         let mine : Latest (Validating q t done [] answer writes) w c.decided c.next = rw e at (g.latest w) in
         let old : q ≡ first w + g.count w = ap number (sym e) ∙ g.numbers w hw in
         record {
-          count = upd g.count w (suc (g.count w));
+          count = updated g.count w (suc (g.count w));
           lists = λ v. elim (eqb_tells v w) [
-            | inl i ↦ rw (i.1, upd_same g.count w (suc (g.count w)), upto_more, ← old, indexes_place w b y c.decided refl rise mine.1) (ap (λ z. z ++ q ∷ []) (g.lists w))
-            | inr n ↦ rw (upd_other g.count w (suc (g.count w)) v n.1, indexes_place_other v y c.decided (λ j. n.1 (sym j))) (g.lists v)
+            | inl i ↦ rw (i.1, updated_same g.count w (suc (g.count w)), upto_more, ← old, indexes_place w b y c.decided refl rise mine.1) (ap (λ z. z ++ q ∷ []) (g.lists w))
+            | inr n ↦ rw (updated_other g.count w (suc (g.count w)) v n.1, indexes_place_other v y c.decided (λ j. n.1 (sym j))) (g.lists v)
           ];
           numbers = λ v l. elim (eqb_tells v w) [
-            | inl i ↦ rw (phase_after, i.1, upd_same g.count w (suc (g.count w)), upd_same (λ u. get_or c.workers u (Rest 0)) w m.phase) (omega (arith, old))
-            | inr n ↦ rw (phase_after, upd_other g.count w (suc (g.count w)) v n.1, upd_other (λ u. get_or c.workers u (Rest 0)) w m.phase v n.1) (g.numbers v (rw length-set at l))
+            | inl i ↦ rw (phase_after, i.1, updated_same g.count w (suc (g.count w)), updated_same (λ u. get_or c.workers u (Rest 0)) w m.phase) (omega (arith, old))
+            | inr n ↦ rw (phase_after, updated_other g.count w (suc (g.count w)) v n.1, updated_other (λ u. get_or c.workers u (Rest 0)) w m.phase v n.1) (g.numbers v (rw length-set at l))
           ];
-          latest = λ v. rw phase_after (by_upd (λ z. Latest z v (insert_by_stamp y c.decided) c.next) (λ u. get_or c.workers u (Rest 0)) w m.phase v
+          latest = λ v. rw phase_after (by_updated (λ z. Latest z v (insert_by_stamp y c.decided) c.next) (λ u. get_or c.workers u (Rest 0)) w m.phase v
               (λ i. 0) (λ o. latest_place (phase_of c v) v (λ j. o (sym j)) (g.latest v)));
           below = all_below_place c.next y c.decided mine.0 g.below;
         }

@@ -4,8 +4,10 @@ use Rattle.std.specs.List.{AllByRecursion}
 use Rattle.std.proofs.lemmas.Bool.Decides.{eqb_tells}
 use Rattle.std.proofs.lemmas.List.{append-nil, reverse-append, length-map}
 use Rattle.std.proofs.lemmas.List.Elements.{All-from_recursion}
+use Rattle.rl_base.specs.Lists.{updated}
+use Rattle.rl_base.proofs.UpdateLemmas.{updated_same, updated_other, by_updated}
 use Rattle.rl_base.proofs.Members.{In, in_contains}
-use Rattle.rl_worker.proofs.States.{Answer, Read, Install, Rec, Outcome, Wants, Ends, Phase, Rest, Asking, Wanting, Loading, Locking, Validating, Storing, Refusing, Setting, asked, other, upd}
+use Rattle.rl_worker.proofs.States.{Answer, Read, Install, Rec, Outcome, Wants, Ends, Phase, Rest, Asking, Wanting, Loading, Locking, Validating, Storing, Refusing, Setting, asked, other}
 use Rattle.rl_worker.specs.Items.{CoreItem, insert_by_stamp}
 use Rattle.rl_worker.specs.Acts.{ActResult, target, act_result, Core, no_rec, phase_of, opening_core, idle, resting, micro, passing, settle, begin, step, is_done, may, Turn, Step, Idle, turn, after_turns}
 use Rattle.rl_worker.specs.Attempts.{next_after}
@@ -13,7 +15,7 @@ use Rattle.rl_worker.specs.Opening.{OpenLeader, core_after, setting_of, opening_
 use Rattle.rl_worker.specs.OneTurn.{MadeBetween, IsInRange, items_by, installing, ended_by}
 use Rattle.rl_worker.specs.Workers.{stamp_made}
 use Rattle.rl_worker.proofs.Parts.{micro_parts, decided_after, ended_after, made_after, parts, micro_at, step_on}
-use Rattle.rl_worker.proofs.Basics.{by_upd, by_test, rest_at, upd_same, upd_other, test_lt, test_ge}
+use Rattle.rl_worker.proofs.Basics.{by_test, rest_at, test_lt, test_ge}
 use Rattle.rl_worker.proofs.Installs.{both}
 use Rattle.rl_worker.proofs.Lift.{set_reads}
 use Rattle.rl_worker.proofs.Numbers.{BelowOf, AllBelow, below_of, all_below_up, all_below_place, below_of_place}
@@ -134,7 +136,7 @@ module _ (k b : ℕ) where
     is_there : w < length c.workers
     is_there = omega (arith, g.workers)
 
-    phase_after : (r : ℕ) (m : ActResult) (v : ℕ) → phase_of (parts c w r m) v ≡ upd (λ u. get_or c.workers u (Rest 0)) w m.phase v
+    phase_after : (r : ℕ) (m : ActResult) (v : ℕ) → phase_of (parts c w r m) v ≡ updated (λ u. get_or c.workers u (Rest 0)) w m.phase v
     phase_after r m v = ap (λ f. f v) (set_reads c.workers w m.phase (Rest 0) is_there)
 
     -- an act that makes, draws and ends nothing
@@ -148,11 +150,11 @@ module _ (k b : ℕ) where
       decided = rw (a, d) g.decided;
       rises = rw d g.rises;
       below = rw (d, n) g.below;
-      drawn = λ v. rw (phase_after, d, n) (by_upd (λ z. Drawn b v z c.decided c.next) (λ u. get_or c.workers u (Rest 0)) w m.phase v
+      drawn = λ v. rw (phase_after, d, n) (by_updated (λ z. Drawn b v z c.decided c.next) (λ u. get_or c.workers u (Rest 0)) w m.phase v
           (λ i. rw i (late (rw e at (g.drawn w)))) (λ i. g.drawn v));
-      ends = λ v. rw (phase_after, d, o) (by_upd (λ z. items_by v c.decided ≡ reverse (items_by v c.ended) ++ option_to_list (installing z)) (λ u. get_or c.workers u (Rest 0)) w m.phase v
+      ends = λ v. rw (phase_after, d, o) (by_updated (λ z. items_by v c.decided ≡ reverse (items_by v c.ended) ++ option_to_list (installing z)) (λ u. get_or c.workers u (Rest 0)) w m.phase v
           (λ i. rw (i, same) (rw e at (g.ends w))) (λ i. g.ends v));
-      own = λ v. rw phase_after (by_upd (λ z. IfSome (installing z) (λ x. x.worker ≡ v)) (λ u. get_or c.workers u (Rest 0)) w m.phase v
+      own = λ v. rw phase_after (by_updated (λ z. IfSome (installing z) (λ x. x.worker ≡ v)) (λ u. get_or c.workers u (Rest 0)) w m.phase v
           (λ i. rw (i, same) (rw e at (g.own w))) (λ i. g.own v));
     }
 
@@ -167,11 +169,11 @@ module _ (k b : ℕ) where
           decided = g.decided;
           rises = g.rises;
           below = all_below_up c.next (suc c.next) c.decided (omega arith) g.below;
-          drawn = λ v. rw phase_after (by_upd (λ z. Drawn b v z c.decided (suc c.next)) (λ u. get_or c.workers u (Rest 0)) w m.phase v
+          drawn = λ v. rw phase_after (by_updated (λ z. Drawn b v z c.decided (suc c.next)) (λ u. get_or c.workers u (Rest 0)) w m.phase v
               (λ i. (g.low, omega arith, below_of v c.next c.decided g.below)) (λ i. drawn_up b v (phase_of c v) c.decided c.next (g.drawn v)));
-          ends = λ v. rw phase_after (by_upd (λ z. items_by v c.decided ≡ reverse (items_by v c.ended) ++ option_to_list (installing z)) (λ u. get_or c.workers u (Rest 0)) w m.phase v
+          ends = λ v. rw phase_after (by_updated (λ z. items_by v c.decided ≡ reverse (items_by v c.ended) ++ option_to_list (installing z)) (λ u. get_or c.workers u (Rest 0)) w m.phase v
               (λ i. rw i (rw e at (g.ends w))) (λ i. g.ends v));
-          own = λ v. rw phase_after (by_upd (λ z. IfSome (installing z) (λ x. x.worker ≡ v)) (λ u. get_or c.workers u (Rest 0)) w m.phase v (λ i. tt) (λ i. g.own v));
+          own = λ v. rw phase_after (by_updated (λ z. IfSome (installing z) (λ x. x.worker ≡ v)) (λ u. get_or c.workers u (Rest 0)) w m.phase v (λ i. tt) (λ i. g.own v));
         }
 
     won : (q t : ℕ) (done : List Read) (answer : Answer) (writes : List Install) (x : Rec) → phase_of c w ≡ Validating q t done [] answer writes
@@ -188,15 +190,15 @@ module _ (k b : ℕ) where
           decided = in_place ((w, t) ∷ c.made) y c.decided (inl refl) (in_more (w, t) c.made c.decided g.decided);
           rises = rises_place 0 y c.decided (omega arith) g.rises;
           below = all_below_place c.next y c.decided mine.1 g.below;
-          drawn = λ v. rw phase_after (by_upd (λ z. Drawn b v z (insert_by_stamp y c.decided) c.next) (λ u. get_or c.workers u (Rest 0)) w m.phase v
+          drawn = λ v. rw phase_after (by_updated (λ z. Drawn b v z (insert_by_stamp y c.decided) c.next) (λ u. get_or c.workers u (Rest 0)) w m.phase v
               (λ i. tt) (λ n. drawn_place b v (phase_of c v) y c.decided c.next (λ j. n (sym j)) (g.drawn v)));
           ends = λ v. elim (eqb_tells v w) [
-            | inl i ↦ rw (phase_after, i.1, upd_same (λ u. get_or c.workers u (Rest 0)) w m.phase)
+            | inl i ↦ rw (phase_after, i.1, updated_same (λ u. get_or c.workers u (Rest 0)) w m.phase)
                 (place_own w 0 y c.decided refl g.rises mine.2 ∙ ap (λ z. z ++ y ∷ []) (before ∙ append-nil (reverse (items_by w c.ended))))
-            | inr n ↦ rw (phase_after, upd_other (λ u. get_or c.workers u (Rest 0)) w m.phase v n.1)
+            | inr n ↦ rw (phase_after, updated_other (λ u. get_or c.workers u (Rest 0)) w m.phase v n.1)
                 (place_other v y c.decided (λ j. n.1 (sym j)) ∙ g.ends v)
           ];
-          own = λ v. rw phase_after (by_upd (λ z. IfSome (installing z) (λ x. x.worker ≡ v)) (λ u. get_or c.workers u (Rest 0)) w m.phase v (λ i. sym i) (λ i. g.own v));
+          own = λ v. rw phase_after (by_updated (λ z. IfSome (installing z) (λ x. x.worker ≡ v)) (λ u. get_or c.workers u (Rest 0)) w m.phase v (λ i. sym i) (λ i. g.own v));
         }
 
     ended : (item : CoreItem) (j : ℕ) (x : Rec) → phase_of c w ≡ Storing item j []
@@ -214,14 +216,14 @@ module _ (k b : ℕ) where
           decided = g.decided;
           rises = g.rises;
           below = g.below;
-          drawn = λ v. rw phase_after (by_upd (λ z. Drawn b v z c.decided c.next) (λ u. get_or c.workers u (Rest 0)) w m.phase v (λ i. tt) (λ i. g.drawn v));
+          drawn = λ v. rw phase_after (by_updated (λ z. Drawn b v z c.decided c.next) (λ u. get_or c.workers u (Rest 0)) w m.phase v (λ i. tt) (λ i. g.drawn v));
           ends = λ v. elim (eqb_tells v w) [
             | inl i ↦ subst (λ u. items_by u c.decided ≡ reverse (items_by u (item ∷ c.ended)) ++ option_to_list (installing (phase_of (parts c w 0 m) u))) (sym i.1)
                 (before ∙ sym last ∙ sym (append-nil (reverse (items_by w (item ∷ c.ended)))) ∙ ap (λ z. reverse (items_by w (item ∷ c.ended)) ++ option_to_list (installing z))
-                (sym (phase_after 0 m w ∙ upd_same (λ u. get_or c.workers u (Rest 0)) w m.phase)))
-            | inr n ↦ rw (phase_after, upd_other (λ u. get_or c.workers u (Rest 0)) w m.phase v n.1, by_other v item c.ended (λ h. n.1 (sym h ∙ own))) (g.ends v)
+                (sym (phase_after 0 m w ∙ updated_same (λ u. get_or c.workers u (Rest 0)) w m.phase)))
+            | inr n ↦ rw (phase_after, updated_other (λ u. get_or c.workers u (Rest 0)) w m.phase v n.1, by_other v item c.ended (λ h. n.1 (sym h ∙ own))) (g.ends v)
           ];
-          own = λ v. rw phase_after (by_upd (λ z. IfSome (installing z) (λ x. x.worker ≡ v)) (λ u. get_or c.workers u (Rest 0)) w m.phase v (λ i. tt) (λ i. g.own v));
+          own = λ v. rw phase_after (by_updated (λ z. IfSome (installing z) (λ x. x.worker ≡ v)) (λ u. get_or c.workers u (Rest 0)) w m.phase v (λ i. tt) (λ i. g.own v));
         }
 
     abbrev IsPlain : Phase → ActResult → Type 0

@@ -2,12 +2,14 @@
 use Rattle.std.proofs.Common.{◌≡◌, ◌≢◌, ℕ, zero, suc, ◌+◌, ◌<◌, ◌≤◌, List, [], ◌∷◌, Bool, true, false, nat_lt, Option, Some, None, refl, sym, ap, ◌∙◌, subst, arith, inl, inr}
 use Rattle.std.proofs.lemmas.Bool.Decides.{eqb_tells, nat_tests}
 use mathlib.Core.Path.{fun_ext}
-use Rattle.rl_worker.proofs.States.{Read, Void, Decided, Entry, State, upd, has, row_at, decided}
+use Rattle.rl_base.specs.Lists.{updated}
+use Rattle.rl_base.proofs.UpdateLemmas.{updated_same, updated_other}
+use Rattle.rl_worker.proofs.States.{Read, Void, Decided, Entry, State, has, row_at, decided}
 use Rattle.rl_worker.specs.Items.{CoreItem, insert_by_stamp}
 use Rattle.rl_worker.proofs.OwnLaw.{Ground, AllRows, Meets, or_row, Serial, Rising}
 use Rattle.rl_worker.proofs.Inv.{Version, Alone, Seen, AllAlone, Inv}
 use Rattle.rl_worker.proofs.Local.{Lawful, decided_lives}
-use Rattle.rl_worker.proofs.Basics.{has_row, upd_same, upd_other}
+use Rattle.rl_worker.proofs.Basics.{has_row}
 
 abbrev pub item : ℕ → Entry → CoreItem
 item t e = record { stamp = t; worker = e.worker; index = e.index; answer = e.answer; writes = e.writes }
@@ -89,19 +91,19 @@ place_later x y ys h = rw (not_test x.stamp y.stamp h) refl
     not_test : (a b : ℕ) → b ≤ a → nat_lt a b ≡ false
     not_test a b l = grind (arith, nat_tests)
 
-pub items_beyond : (log : ℕ → Entry) (t : ℕ) (e : Entry) (k b : ℕ) → t < b → items_from (upd log t e) b k ≡ items_from log b k
+pub items_beyond : (log : ℕ → Entry) (t : ℕ) (e : Entry) (k b : ℕ) → t < b → items_from (updated log t e) b k ≡ items_from log b k
 items_beyond log t e zero b h = refl
 items_beyond log t e (suc k) b h =
-    let n : b ≢ t = omega arith in rw (upd_other log t e b n, items_beyond log t e k (suc b) (omega arith)) refl
+    let n : b ≢ t = omega arith in rw (updated_other log t e b n, items_beyond log t e k (suc b) (omega arith)) refl
 
 -- a decision puts one item in its place
 pub items_decided : (log : ℕ → Entry) (t k b : ℕ) → decided (log t).status ≡ false → b ≤ t → t < b + k
-    → items_from (upd log t (record (log t) { status = Decided })) b k ≡ insert_by_stamp (item t (log t)) (items_from log b k)
+    → items_from (updated log t (record (log t) { status = Decided })) b k ≡ insert_by_stamp (item t (log t)) (items_from log b k)
 items_decided log t zero b d lo hi = absurd (omega arith)
 items_decided log t (suc k) b d lo hi = elim (eqb_tells b t) [
-  | inl i ↦ rw (i.1, upd_same log t (record (log t) { status = Decided }), items_beyond log t (record (log t) { status = Decided }) k (suc t) (omega arith), d)
+  | inl i ↦ rw (i.1, updated_same log t (record (log t) { status = Decided }), items_beyond log t (record (log t) { status = Decided }) k (suc t) (omega arith), d)
       (sym (place_first (item t (log t)) (items_from log (suc t) k) (items_rise log k (suc t))))
-  | inr n ↦ rw (upd_other log t (record (log t) { status = Decided }) b n.1, items_decided log t k (suc b) d (omega (arith, n.1)) (omega arith))
+  | inr n ↦ rw (updated_other log t (record (log t) { status = Decided }) b n.1, items_decided log t k (suc b) d (omega (arith, n.1)) (omega arith))
       (go (decided (log b).status) (omega arith))
 ]
   where
@@ -110,20 +112,20 @@ items_decided log t (suc k) b d lo hi = elim (eqb_tells b t) [
     go true h = sym (place_later (item t (log t)) (item b (log b)) (items_from log (suc b) k) h)
 
 -- a draw adds none
-pub items_drawn : (log : ℕ → Entry) (t : ℕ) (e : Entry) (k b : ℕ) → decided e.status ≡ false → b + k ≡ t → items_from (upd log t e) b (suc k) ≡ items_from log b k
-items_drawn log t e zero b d h = let i : b ≡ t = omega arith in rw (i, upd_same log t e, d) refl
-items_drawn log t e (suc k) b d h = let n : b ≢ t = omega arith in rw (upd_other log t e b n, items_drawn log t e k (suc b) d (omega arith)) refl
+pub items_drawn : (log : ℕ → Entry) (t : ℕ) (e : Entry) (k b : ℕ) → decided e.status ≡ false → b + k ≡ t → items_from (updated log t e) b (suc k) ≡ items_from log b k
+items_drawn log t e zero b d h = let i : b ≡ t = omega arith in rw (i, updated_same log t e, d) refl
+items_drawn log t e (suc k) b d h = let n : b ≢ t = omega arith in rw (updated_other log t e b n, items_drawn log t e k (suc b) d (omega arith)) refl
 
 pub items_idle : (log : ℕ → Entry) (k b t : ℕ) → b + k ≡ t → decided (log t).status ≡ false → items_from log b (suc k) ≡ items_from log b k
 items_idle log zero b t h d = let i : b ≡ t = omega arith in rw (i, d) refl
 items_idle log (suc k) b t h d = ap (λ z. kept (decided (log b).status) (item b (log b)) z) (items_idle log k (suc b) t (omega arith) d)
 
 -- nor does a refusal
-pub items_voided : (log : ℕ → Entry) (t k b : ℕ) → decided (log t).status ≡ false → items_from (upd log t (record (log t) { status = Void })) b k ≡ items_from log b k
+pub items_voided : (log : ℕ → Entry) (t k b : ℕ) → decided (log t).status ≡ false → items_from (updated log t (record (log t) { status = Void })) b k ≡ items_from log b k
 items_voided log t zero b d = refl
 items_voided log t (suc k) b d = elim (eqb_tells b t) [
-  | inl i ↦ rw (i.1, upd_same log t (record (log t) { status = Void }), d) (items_voided log t k (suc t) d)
-  | inr n ↦ rw (upd_other log t (record (log t) { status = Void }) b n.1, items_voided log t k (suc b) d) refl
+  | inl i ↦ rw (i.1, updated_same log t (record (log t) { status = Void }), d) (items_voided log t k (suc t) d)
+  | inr n ↦ rw (updated_other log t (record (log t) { status = Void }) b n.1, items_voided log t k (suc b) d) refl
 ]
 
 module _ (G : Ground) (L : Lawful G) (σ : State) (inv : Inv G σ) where

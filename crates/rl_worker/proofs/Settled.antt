@@ -1,13 +1,14 @@
 -- Once every stamp up to t is decided or refused, no item with a stamp up to t comes later.
 use Rattle.std.proofs.Common.{◌≡◌, ℕ, ◌<◌, ◌≤◌, List, [], ◌∷◌, length, get_or, false, ◌==◌, nat_lt, nat_le, if◌then◌else◌, refl, sym, ap, ◌∙◌, subst, arith, length-set, is_some}
 use Rattle.std.proofs.lemmas.Bool.Decides.{nat_tests}
+use Rattle.rl_base.proofs.UpdateLemmas.{by_updated}
 use Rattle.rl_worker.proofs.States.{Read, Rec, Outcome, Wants, Ends, Phase, Rest, Asking, Wanting, Loading, Locking, Validating, Storing, Refusing, Setting, asked, other}
 use Rattle.rl_worker.specs.Items.{CoreItem, insert_by_stamp}
 use Rattle.rl_worker.specs.Laws.{early, Above, IsSettled}
 use Rattle.rl_worker.specs.Acts.{ActResult, target, act_result, Core, no_rec, phase_of, micro, passing, resting, settle, begin, step, is_done, may, idle, Turn, Step, Idle, turn, after_turns}
 use Rattle.rl_worker.specs.Attempts.{next_after}
 use Rattle.rl_worker.proofs.Parts.{micro_parts, decided_after, step_on}
-use Rattle.rl_worker.proofs.Basics.{by_upd, by_test}
+use Rattle.rl_worker.proofs.Basics.{by_test}
 use Rattle.rl_worker.proofs.Lift.{set_reads}
 use Rattle.rl_worker.proofs.Whole.{there}
 
@@ -59,7 +60,7 @@ module _ (S : Setting) (t : ℕ) where
           (
             omega (arith, s.0, k.1),
             λ v. subst (λ f. Above t (f v)) (sym (set_reads c.workers w m.phase (Rest 0) hw))
-                (by_upd (λ z. Above t z) (λ u. get_or c.workers u (Rest 0)) w m.phase v (λ i. k.2 (s.1 w)) (λ n. s.1 v)),
+                (by_updated (λ z. Above t z) (λ u. get_or c.workers u (Rest 0)) w m.phase v (λ i. k.2 (s.1 w)) (λ n. s.1 v)),
           ),
           k.0,
           rw length-set hw,

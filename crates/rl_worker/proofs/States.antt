@@ -1,5 +1,6 @@
 -- The acts over functions by number, beside a log of all stamps that were drawn.
-use Rattle.std.proofs.Common.{ℕ, suc, List, Bool, true, false, ◌==◌, if◌then◌else◌}
+use Rattle.std.proofs.Common.{ℕ, suc, List, Bool, true, false}
+use Rattle.rl_base.specs.Lists.{updated}
 pub use Rattle.rl_worker.specs.Phases.{Answer, Read, Install, Rec, Outcome, Wants, Ends, Phase, Rest, Asking, Wanting, Loading, Locking, Validating, Storing, Refusing, Setting, with_read, asked, other}
 pub use Rattle.rl_worker.proofs.OwnLaw.{has, row_at}
 
@@ -24,9 +25,6 @@ pub record State : Type 0 where
   pub log : ℕ → Entry
   pub next : ℕ
 
-abbrev pub upd : {A : Type 0} → (ℕ → A) → ℕ → A → ℕ → A
-upd f i x j = if j == i then x else f j
-
 abbrev pub live : Status → Bool
 live Void = false
 live Drawn = true
@@ -39,13 +37,13 @@ decided Decided = true
 
 -- ---- the acts ----
 abbrev pub goes : State → ℕ → Phase → State
-goes σ w p = record { recs = σ.recs; workers = upd σ.workers w p; log = σ.log; next = σ.next }
+goes σ w p = record { recs = σ.recs; workers = updated σ.workers w p; log = σ.log; next = σ.next }
 
 abbrev pub sets : State → ℕ → Rec → ℕ → Phase → State
-sets σ r x w p = record { recs = upd σ.recs r x; workers = upd σ.workers w p; log = σ.log; next = σ.next }
+sets σ r x w p = record { recs = updated σ.recs r x; workers = updated σ.workers w p; log = σ.log; next = σ.next }
 
 abbrev pub draws : State → Entry → ℕ → Phase → State
-draws σ e w p = record { recs = σ.recs; workers = upd σ.workers w p; log = upd σ.log σ.next e; next = suc σ.next }
+draws σ e w p = record { recs = σ.recs; workers = updated σ.workers w p; log = updated σ.log σ.next e; next = suc σ.next }
 
 abbrev pub ends : State → ℕ → Status → ℕ → Phase → State
-ends σ t s w p = record { recs = σ.recs; workers = upd σ.workers w p; log = upd σ.log t (record (σ.log t) { status = s }); next = σ.next }
+ends σ t s w p = record { recs = σ.recs; workers = updated σ.workers w p; log = updated σ.log t (record (σ.log t) { status = s }); next = σ.next }
