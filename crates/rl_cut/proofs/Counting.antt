@@ -10,14 +10,13 @@ use Rattle.std.proofs.lemmas.List.{append-nil}
 use Rattle.rl_base.specs.declared.stamp.Stamp.{Stamp}
 use Rattle.rl_base.specs.Order.{IsBelow, is_below}
 use Rattle.rl_base.specs.Lists.{IsPrefix}
-use Rattle.rl_base.proofs.Members.{In}
 use Rattle.rl_txn.specs.declared.item.Item.{Item}
 use Rattle.rl_txn.specs.declared.batch.Batch.{Batch}
 use Rattle.rl_families.specs.Order.{in_order}
 use Rattle.rl_families.specs.Logs.{stamps_in_batch, items_in_batch, stamps_along, items_along, IsRising, first_stamp, last_stamp, top_epoch, last_seq}
 use Rattle.rl_families.specs.Families.{least_top, all_reached, watermark, is_counted, history, IsInside, AllRise}
 use Rattle.rl_families.specs.Laws.{is_up_to_watermark}
-use Rattle.rl_families.proofs.Members.{all_in, in_map, map_in, in_front}
+use Rattle.rl_base.proofs.Members.{In, all_in, in_map, map_in, in_prefix}
 use Rattle.rl_families.proofs.Logs.{item_stamp, stamps_along-append}
 use Rattle.rl_families.proofs.Rising.{Rises, rises_from, Above, above_in, below_last, last_is}
 use Rattle.rl_families.proofs.Sorting.{lower, Sorted, Least, in_order_sorted, in_order-filter}

@@ -12,14 +12,13 @@ use Rattle.rl_base.specs.declared.stamp.Stamp.{Stamp}
 use Rattle.rl_base.specs.Order.{IsBelow, is_below}
 use Rattle.rl_base.specs.Lists.{IsPrefix}
 use Rattle.rl_base.proofs.OrderLemmas.{is_below_from, below_one_way}
-use Rattle.rl_base.proofs.Members.{In, contains_in}
 use Rattle.rl_txn.specs.declared.item.Item.{Item}
 use Rattle.rl_txn.specs.declared.batch.Batch.{Batch}
 use Rattle.rl_families.specs.Order.{in_order, IsInOrder}
 use Rattle.rl_families.specs.Logs.{stamps_in_batch, items_in_batch, stamps_along, items_along, IsRising, first_stamp, last_stamp, top_epoch, last_seq}
 use Rattle.rl_families.specs.Families.{least_top, all_reached, watermark, is_counted, bound_of, history, IsInside, AllRise}
 use Rattle.rl_families.specs.Laws.{is_up_to_watermark}
-use Rattle.rl_families.proofs.Members.{all_in, in_front, in_back, in_split}
+use Rattle.rl_base.proofs.Members.{In, contains_in, all_in, in_prefix, in_suffix, in_split}
 use Rattle.rl_families.proofs.Logs.{item_stamp, stamps_along-append, items_along-append}
 use Rattle.rl_families.proofs.Rising.{Rises, rises_from, rises_front, rises_back, above_in, below_last, last_is}
 use Rattle.rl_families.proofs.Sorting.{lower, Sorted, Least, least_at}

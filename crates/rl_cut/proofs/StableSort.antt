@@ -10,8 +10,7 @@ use Rattle.std.proofs.lemmas.Bool.{cases_Bool}
 use Rattle.rl_base.proofs.OrderLemmas.{not_below_self}
 use Rattle.rl_txn.specs.declared.item.Item.{Item}
 use Rattle.rl_families.specs.Order.{in_order}
-use Rattle.rl_base.proofs.Members.{In}
-use Rattle.rl_families.proofs.Members.{in_filter}
+use Rattle.rl_base.proofs.Members.{In, in_filter}
 use Rattle.rl_families.proofs.Sorting.{lower, lower_one_way, lower_chain, Least, Sorted, in_order_sorted, insert_first, in_order-filter, least_at}
 
 lower_self : (x : Item) → lower x x ≡ false

@@ -5,7 +5,8 @@ ghost use Rattle.rl_txn.specs.declared.batch.Batch.{Batch};
 ghost use Rattle.rl_families.specs.Logs.{stamps_in_batch, stamps_along, IsRising, first_stamp, last_stamp};
 ghost use Rattle.rl_families.specs.Order.{IsInOrder};
 ghost use Rattle.rl_families.specs.Families.{AllRise, bound_of, watermark, history};
-ghost use Rattle.rl_cut.specs.Refusals.{log_of_stream, order_refusal, extend_refusal};
+ghost use Rattle.rl_families.specs.Streams.{log_at};
+ghost use Rattle.rl_cut.specs.Refusals.{order_refusal, extend_refusal};
 
 use crate::due::count;
 use crate::lasts::{Lasts, last_of_lasts, lasts_after, least_seq};
@@ -98,7 +99,7 @@ impl Family {
         requires last_stream { stream ≤ length self.old }
         requires rising { IsRising (stamps_in_batch batch) }
         ensures extended { OnOk result (self.new ≡ slice_set self.old (stream - 1)
-            (log_of_stream self.old stream ++ batch ∷ [])) }
+            (log_at self.old stream ++ batch ∷ [])) }
         ensures refused { IfSome (extend_refusal self.old stream batch) (λ e. result ≡ Err e) }
         ensures else_memory { IfNone (extend_refusal self.old stream batch) (IsOkUnless result ExtendError.Memory) }
         ensures unchanged { OnErr result (self.new ≡ self.old) }
@@ -116,7 +117,7 @@ impl Family {
         requires rising { IsRising (stamps_in_batch batch) }
         requires free { extend_refusal self.old stream batch ≡ None }
         ensures extended { OnOk result (self.new ≡ slice_set self.old (stream - 1)
-            (log_of_stream self.old stream ++ batch ∷ [])) }
+            (log_at self.old stream ++ batch ∷ [])) }
         ensures unchanged { OnErr result (self.new ≡ self.old) }
     {
         let at = stream as usize - 1;
@@ -154,7 +155,7 @@ impl Family {
     pub fn log(&self, stream: u32) -> &Batches
         requires first_stream { 1 ≤ stream }
         requires last_stream { stream ≤ length self.now }
-        ensures { result.now ≡ log_of_stream self.now stream }
+        ensures { result.now ≡ log_at self.now stream }
     {
         &self.logs[stream as usize - 1]
     }

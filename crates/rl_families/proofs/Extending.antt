@@ -11,8 +11,8 @@ use Rattle.rl_base.specs.Order.{IsBelow}
 use Rattle.rl_families.specs.Logs.{stamps_along, items_along, top_epoch, last_seq}
 use Rattle.rl_families.specs.Families.{all_reached, is_counted, history}
 use Rattle.rl_families.specs.Leaders.{logs_of_streams, Leaders, open_mark, initial_log, leader_log, opening_list, own_stamps, AreLeaders, ArePrefixesOfLeaders, ExtendsOpening}
-use Rattle.rl_base.proofs.Members.{In, contains_in, in_contains}
-use Rattle.rl_families.proofs.Members.{in_map, in_front, in_back, in_split, in_filter, filter_in, pre_trans, pre_in}
+use Rattle.rl_base.proofs.Members.{In, contains_in, in_contains, in_map, in_prefix, in_suffix, in_split, in_filter, filter_in}
+use Rattle.rl_base.proofs.Prefixes.{prefix_trans, prefix_in}
 use Rattle.rl_families.proofs.Logs.{stamps_along-append, items_along-append, item_stamp, past_it, stamps_pre, items_pre, split_stamps, split_items, back_stamps}
 use Rattle.rl_families.proofs.Rising.{Rises, rises_from, above_in, rises_append, rises_front, rises_pre, behind, top_among, top_in, top_above}
 use Rattle.rl_families.proofs.Nesting.{least_le, last_settled}
@@ -43,7 +43,7 @@ module _ (l : Leaders) (n : ℕ) (g : AreLeaders l n) where
   ]
 
   pub told_own : (e s : ℕ) (t : Stamp) → In t (stamps_along (open_mark e ∷ l.proposed e s)) → In t (own_stamps l e s)
-  told_own e s t i = in_front t (stamps_along (open_mark e ∷ l.proposed e s)) (map (λ (x : Item). x.stamp) (l.pending e s)) i
+  told_own e s t i = in_prefix (stamps_along (open_mark e ∷ l.proposed e s)) (map (λ (x : Item). x.stamp) (l.pending e s)) t i
 
   pub record StampOk (b : ℕ) (t : Stamp) : Type 0 where
     pub born : 0 < t.epoch
@@ -167,7 +167,7 @@ module _ (l : Leaders) (n : ℕ) (g : AreLeaders l n) where
       let rec = l.recovered (suc b) s in
       let from = g.recovers (suc b) s (above_zero b) in
       elim (past_it log rec (open_mark (suc b) ∷ l.proposed (suc b) s) p.0 p.1) [
-        | inl c ↦ part bound from.0 s e (omega (arith, from.1)) log (pre_trans log rec (leader_log l from.0 s) c from.2) t i q
+        | inl c ↦ part bound from.0 s e (omega (arith, from.1)) log (prefix_trans log rec (leader_log l from.0 s) c from.2) t i q
         | inr c ↦ (let own : (u : Stamp) → In u (stamps_along (c.0 ∷ c.1)) → u.epoch ≡ suc b = λ u j. own_epoch (suc b) s u (told_own (suc b) s u (stamps_pre u (c.0 ∷ c.1) (open_mark (suc b) ∷ l.proposed (suc b) s) (p.0, c.3) j)) in
             elim (eqb_tells e (suc b)) [
               | inl same ↦ subst (λ z. Part z s log) (sym same.1) (record {
@@ -213,9 +213,9 @@ module _ (l : Leaders) (n : ℕ) (g : AreLeaders l n) where
   pub decided_epoch : (e : ℕ) (x : Item) → In x (l.decided e) → x.stamp.epoch ≡ e
   decided_epoch e x i =
       let d = g.decides e x (in_contains (l.decided e) x i) in
-      own_epoch e x.worker x.stamp (elim (in_split x (items_along (l.proposed e x.worker)) (l.pending e x.worker) (contains_in (items_along (l.proposed e x.worker) ++ l.pending e x.worker) x d.2)) [
+      own_epoch e x.worker x.stamp (elim (in_split (items_along (l.proposed e x.worker)) (l.pending e x.worker) x (contains_in (items_along (l.proposed e x.worker) ++ l.pending e x.worker) x d.2)) [
         | inl j ↦ told_own e x.worker x.stamp (inr (item_stamp (l.proposed e x.worker) x j))
-        | inr j ↦ in_back x.stamp (stamps_along (open_mark e ∷ l.proposed e x.worker)) (map (λ (y : Item). y.stamp) (l.pending e x.worker)) (in_map (λ (y : Item). y.stamp) x (l.pending e x.worker) j)
+        | inr j ↦ in_suffix (stamps_along (open_mark e ∷ l.proposed e x.worker)) (map (λ (y : Item). y.stamp) (l.pending e x.worker)) x.stamp (in_map (λ (y : Item). y.stamp) x (l.pending e x.worker) j)
       ])
 
   opens_same : (e : ℕ) → 0 < e → opening_list l n e ≡ history (logs_of_streams n (l.recovered e))
@@ -230,7 +230,7 @@ module _ (l : Leaders) (n : ℕ) (g : AreLeaders l n) where
       let lo : x.stamp.seq ≤ last_seq (l.recovered e r) x.stamp.epoch = subst (λ z. x.stamp.seq ≤ z) (last_other (l.recovered e r) (open_mark e) (record { epoch = e; seq = 1 }) x.stamp.epoch refl (λ k. absurd (omega (arith, o.1)))) (m.within r p q).1 in
       let y = has_last (l.recovered e r) x.stamp.epoch (omega arith) in
       (omega (arith, top_above (stamps_along (l.recovered e r)) (f_rises (l.recovered e) rec_told r p q) y.0 y.1, y.2), lo)))
-      (λ x i. pre_in x (history (logs_of_streams n (l.recovered e))) (opening_list l n e) (nests n (l.recovered e) (initial_log l e) (λ s p q. (open_mark e ∷ [], refl)) (f_rises (initial_log l e) first_told)) i)
+      (λ x i. prefix_in x (history (logs_of_streams n (l.recovered e))) (opening_list l n e) (nests n (l.recovered e) (initial_log l e) (λ s p q. (open_mark e ∷ [], refl)) (f_rises (initial_log l e) first_told)) i)
 
   module _ (f : ℕ → List Batch) (told : ArePrefixesOfLeaders l n f) (e : ℕ) (born : 0 < e) (all : (s : ℕ) → 1 ≤ s → s ≤ n → 0 < last_seq (f s) e)
       (none : (x : Item) → In x (history (logs_of_streams n f)) → e < x.stamp.epoch → ⊥) where
@@ -238,7 +238,7 @@ module _ (l : Leaders) (n : ℕ) (g : AreLeaders l n) where
     part_at s p q = let y = has_last (f s) e (all s p q) in let k = told s p q in part (suc k.0) k.0 s e (omega arith) (f s) k.1 y.0 y.1 y.2
 
     starts : (s : ℕ) → 1 ≤ s → s ≤ n → IsPrefix (initial_log l e s) (f s)
-    starts s p q = let k = part_at s p q in pre_trans (initial_log l e s) k.upto (f s) k.begins (k.later, k.joins)
+    starts s p q = let k = part_at s p q in prefix_trans (initial_log l e s) k.upto (f s) k.begins (k.later, k.joins)
 
     opens_in : IsPrefix (opening_list l n e) (history (logs_of_streams n f))
     opens_in = nests n (initial_log l e) f starts (f_rises f told)
@@ -279,8 +279,8 @@ module _ (l : Leaders) (n : ℕ) (g : AreLeaders l n) where
         let y = has_last (f s) e (all s d.0 d.1) in
         let yu : In y.0 (stamps_along k.upto) = elim (split_stamps y.0 k.upto k.later (subst (λ z. In y.0 (stamps_along z)) (sym k.joins) y.1)) [ inl j ↦ j | inr j ↦ absurd (let a = k.after y.0 j in omega (arith, y.2)) ] in
         let high : IsBelow y.0 x.stamp → ⊥ = λ b. elim b [ inl a ↦ omega (arith, y.2) | inr a ↦ omega (arith, a.1, y.3, far s d.0 d.1) ] in
-        let there : In x (items_along k.upto) = elim (in_split x (items_along (l.proposed e s)) (l.pending e s) (contains_in (items_along (l.proposed e s) ++ l.pending e s) x d.2)) [
-          | inl j ↦ (let xl : In x (items_along (leader_log l e s)) = subst (λ z. In x (items_along z)) (sym (log_is e s born)) (subst (λ z. In x z) (sym (items_along-append (l.recovered e s) (open_mark e ∷ l.proposed e s))) (in_back x (items_along (l.recovered e s)) (items_along (open_mark e ∷ l.proposed e s)) j)) in
+        let there : In x (items_along k.upto) = elim (in_split (items_along (l.proposed e s)) (l.pending e s) x (contains_in (items_along (l.proposed e s) ++ l.pending e s) x d.2)) [
+          | inl j ↦ (let xl : In x (items_along (leader_log l e s)) = subst (λ z. In x (items_along z)) (sym (log_is e s born)) (subst (λ z. In x z) (sym (items_along-append (l.recovered e s) (open_mark e ∷ l.proposed e s))) (in_suffix (items_along (l.recovered e s)) (items_along (open_mark e ∷ l.proposed e s)) x j)) in
               elim (split_items x k.upto k.inside.0 (subst (λ z. In x (items_along z)) (sym k.inside.1) xl)) [
                 | inl v ↦ v
                 | inr v ↦ absurd (high (behind (stamps_along k.upto) (stamps_along k.inside.0) (subst Rises (sym (sym (stamps_along-append k.upto k.inside.0) ∙ ap stamps_along k.inside.1)) (rises_at e s)) y.0 yu x.stamp (item_stamp k.inside.0 x v)))
@@ -308,15 +308,15 @@ module _ (l : Leaders) (n : ℕ) (g : AreLeaders l n) where
           let b = decided_epoch e y (in_filter (λ (z : Item). nat_le z.stamp.seq (all_reached (logs_of_streams n f) e)) y (l.decided e) j).0 in
           inl (omega arith)))
           (λ x i. elim (three x.stamp.epoch e) [
-            | inl a ↦ in_front x (opening_list l n e) (filter (λ (z : Item). nat_le z.stamp.seq (all_reached (logs_of_streams n f) e)) (l.decided e)) (older x i a)
+            | inl a ↦ in_prefix (opening_list l n e) (filter (λ (z : Item). nat_le z.stamp.seq (all_reached (logs_of_streams n f) e)) (l.decided e)) x (older x i a)
             | inr c ↦ elim c [
-              | inl q ↦ (let d = here_decided x i q in in_back x (opening_list l n e) (filter (λ (z : Item). nat_le z.stamp.seq (all_reached (logs_of_streams n f) e)) (l.decided e))
+              | inl q ↦ (let d = here_decided x i q in in_suffix (opening_list l n e) (filter (λ (z : Item). nat_le z.stamp.seq (all_reached (logs_of_streams n f) e)) (l.decided e)) x
                   (filter_in (λ (z : Item). nat_le z.stamp.seq (all_reached (logs_of_streams n f) e)) x (l.decided e) d.0 (le_true x.stamp.seq (all_reached (logs_of_streams n f) e) d.1)))
               | inr a ↦ absurd (none x i a)
             ]
           ])
-          (λ x i. elim (in_split x (opening_list l n e) (filter (λ (z : Item). nat_le z.stamp.seq (all_reached (logs_of_streams n f) e)) (l.decided e)) i) [
-            | inl j ↦ pre_in x (opening_list l n e) (history (logs_of_streams n f)) opens_in j
+          (λ x i. elim (in_split (opening_list l n e) (filter (λ (z : Item). nat_le z.stamp.seq (all_reached (logs_of_streams n f) e)) (l.decided e)) x i) [
+            | inl j ↦ prefix_in x (opening_list l n e) (history (logs_of_streams n f)) opens_in j
             | inr j ↦ (let d = in_filter (λ (z : Item). nat_le z.stamp.seq (all_reached (logs_of_streams n f) e)) x (l.decided e) j in arrived x d.0 (true_le x.stamp.seq (all_reached (logs_of_streams n f) e) d.1))
           ]);
       opens = opens_same e born;

@@ -6,7 +6,6 @@ use Rattle.std.proofs.lemmas.List.Quantifiers.{all_pairs_push}
 use Rattle.rl_base.specs.declared.stamp.Stamp.{Stamp}
 use Rattle.rl_base.specs.Lists.{IsPrefix}
 use Rattle.rl_base.specs.Order.{IsBelow}
-use Rattle.rl_base.proofs.Members.{In, contains_in, in_contains}
 use Rattle.rl_txn.specs.declared.item.Item.{Item}
 use Rattle.rl_txn.specs.declared.batch.Batch.{Batch}
 use Rattle.rl_families.specs.Logs.{stamps_along, items_along}
@@ -15,7 +14,8 @@ use Rattle.rl_families.specs.Streams.{HaveOtherStamps}
 use Rattle.rl_families.specs.Leaders.{logs_of_streams, Leaders, open_mark, leader_log, AreLeaders, ArePrefixesOfLeaders}
 use Rattle.rl_families.specs.LeadersLogs.{EpochPart}
 use Rattle.rl_families.specs.Laws.{LeadersLogsRise}
-use Rattle.rl_families.proofs.Members.{map_in, pre_trans}
+use Rattle.rl_base.proofs.Members.{In, contains_in, in_contains, map_in}
+use Rattle.rl_base.proofs.Prefixes.{prefix_trans}
 use Rattle.rl_families.proofs.Logs.{past_it, stamps_pre, split_stamps}
 use Rattle.rl_families.proofs.Rising.{Rises, from_rises, above_append}
 use Rattle.rl_families.proofs.Strict.{Strict, not_self, strict_apart}
@@ -49,7 +49,7 @@ module _ (l : Leaders) (n : ℕ) (g : AreLeaders l n) where
       let rec = l.recovered (suc b) s in
       let from = g.recovers (suc b) s (above_zero b) in
       elim (past_it log rec (open_mark (suc b) ∷ l.proposed (suc b) s) p.0 p.1) [
-        | inl c ↦ epoch_part bound from.0 s e (omega (arith, from.1)) born log (pre_trans log rec (leader_log l from.0 s) c from.2)
+        | inl c ↦ epoch_part bound from.0 s e (omega (arith, from.1)) born log (prefix_trans log rec (leader_log l from.0 s) c from.2)
         | inr c ↦ (let own : (u : Stamp) → In u (stamps_along (c.0 ∷ c.1)) → u.epoch ≡ suc b = λ u j. own_epoch l n g (suc b) s u (told_own l n g (suc b) s u (stamps_pre u (c.0 ∷ c.1) (open_mark (suc b) ∷ l.proposed (suc b) s) (p.0, c.3) j)) in
             let low : (u : Stamp) → In u (stamps_along rec) → u.epoch < suc b = λ u j. (recovered_ok l n g (suc b) s (above_zero b) u j).1 in
             elim (three e (suc b)) [

@@ -1,4 +1,4 @@
--- Members, and Sorting: what stands in a list, and in a list put in order by stamp.
+-- Sorting: what stands in a list put in order by stamp.
 -- Logs, Rising: along a log whose stamps rise, what stands behind a part is above its last stamps.
 -- Nesting: so a longer log adds nothing below the cut of a shorter one, and the histories nest.
 -- Strict: items with different stamps have one order; two such lists with the same members are equal.
@@ -6,7 +6,6 @@
 -- Streams, Extending: a log told by leaders is, epoch by epoch, a part of what each leader decided; so a
 -- history has the members of an opening list and of what its epoch decided first, and no others.
 -- Leading: what an epoch has in such a log. SerialHistories: one epoch more behind its opening list.
-pub mod Members
 pub mod Sorting
 pub mod Logs
 pub mod Rising

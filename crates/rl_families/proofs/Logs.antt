@@ -8,8 +8,7 @@ use Rattle.rl_txn.specs.declared.batch.Batch.{Batch}
 use Rattle.rl_txn.specs.declared.batch.Batch.TheVariants.{Items, Idle, Opened}
 use Rattle.rl_base.specs.Lists.{IsPrefix}
 use Rattle.rl_families.specs.Logs.{stamps_in_batch, items_in_batch, stamps_along, items_along, last_seq_among}
-use Rattle.rl_base.proofs.Members.{In}
-use Rattle.rl_families.proofs.Members.{in_map, in_front, in_back, in_split}
+use Rattle.rl_base.proofs.Members.{In, in_map, in_prefix, in_suffix, in_split}
 
 pub stamps_along-append : (xs ys : List Batch) → stamps_along (xs ++ ys) ≡ stamps_along xs ++ stamps_along ys
 stamps_along-append xs ys = flat_map-append stamps_in_batch xs ys
@@ -38,9 +37,9 @@ item_stamp_of (Opened s) x i = absurd i
 
 pub item_stamp : (log : List Batch) (x : Item) → In x (items_along log) → In x.stamp (stamps_along log)
 item_stamp [] x i = absurd i
-item_stamp (b ∷ bs) x i = elim (in_split x (items_in_batch b) (items_along bs) i) [
-  | inl j ↦ in_front x.stamp (stamps_in_batch b) (stamps_along bs) (item_stamp_of b x j)
-  | inr j ↦ in_back x.stamp (stamps_in_batch b) (stamps_along bs) (item_stamp bs x j)
+item_stamp (b ∷ bs) x i = elim (in_split (items_in_batch b) (items_along bs) x i) [
+  | inl j ↦ in_prefix (stamps_in_batch b) (stamps_along bs) x.stamp (item_stamp_of b x j)
+  | inr j ↦ in_suffix (stamps_in_batch b) (stamps_along bs) x.stamp (item_stamp bs x j)
 ]
 
 -- a prefix of two lists joined is one of the first, or goes past it
@@ -57,16 +56,16 @@ past_it (x ∷ xs) (y ∷ ys) b rest e =
 
 -- ---- parts of a log ----
 pub stamps_pre : (s : Stamp) (xs ys : List Batch) → IsPrefix xs ys → In s (stamps_along xs) → In s (stamps_along ys)
-stamps_pre s xs ys p i = subst (λ z. In s (stamps_along z)) p.1 (subst (λ z. In s z) (sym (stamps_along-append xs p.0)) (in_front s (stamps_along xs) (stamps_along p.0) i))
+stamps_pre s xs ys p i = subst (λ z. In s (stamps_along z)) p.1 (subst (λ z. In s z) (sym (stamps_along-append xs p.0)) (in_prefix (stamps_along xs) (stamps_along p.0) s i))
 
 pub items_pre : (x : Item) (xs ys : List Batch) → IsPrefix xs ys → In x (items_along xs) → In x (items_along ys)
-items_pre x xs ys p i = subst (λ z. In x (items_along z)) p.1 (subst (λ z. In x z) (sym (items_along-append xs p.0)) (in_front x (items_along xs) (items_along p.0) i))
+items_pre x xs ys p i = subst (λ z. In x (items_along z)) p.1 (subst (λ z. In x z) (sym (items_along-append xs p.0)) (in_prefix (items_along xs) (items_along p.0) x i))
 
 pub split_stamps : (s : Stamp) (xs ys : List Batch) → In s (stamps_along (xs ++ ys)) → In s (stamps_along xs) ⊎ In s (stamps_along ys)
-split_stamps s xs ys i = in_split s (stamps_along xs) (stamps_along ys) (subst (λ z. In s z) (stamps_along-append xs ys) i)
+split_stamps s xs ys i = in_split (stamps_along xs) (stamps_along ys) s (subst (λ z. In s z) (stamps_along-append xs ys) i)
 
 pub split_items : (x : Item) (xs ys : List Batch) → In x (items_along (xs ++ ys)) → In x (items_along xs) ⊎ In x (items_along ys)
-split_items x xs ys i = in_split x (items_along xs) (items_along ys) (subst (λ z. In x z) (items_along-append xs ys) i)
+split_items x xs ys i = in_split (items_along xs) (items_along ys) x (subst (λ z. In x z) (items_along-append xs ys) i)
 
 pub back_stamps : (s : Stamp) (xs ys : List Batch) → In s (stamps_along ys) → In s (stamps_along (xs ++ ys))
-back_stamps s xs ys i = subst (λ z. In s z) (sym (stamps_along-append xs ys)) (in_back s (stamps_along xs) (stamps_along ys) i)
+back_stamps s xs ys i = subst (λ z. In s z) (sym (stamps_along-append xs ys)) (in_suffix (stamps_along xs) (stamps_along ys) s i)

@@ -14,8 +14,7 @@ use Rattle.rl_families.specs.Order.{in_order}
 use Rattle.rl_families.specs.Logs.{stamps_along, items_along, IsRising, top_epoch, last_seq, last_seq_among}
 use Rattle.rl_families.specs.Families.{least, least_top, all_reached, watermark, is_counted, history, IsInside}
 use Rattle.rl_families.specs.Laws.{is_up_to_watermark, HistoriesNest, WatermarkCuts}
-use Rattle.rl_base.proofs.Members.{In}
-use Rattle.rl_families.proofs.Members.{all_in, in_map, map_in}
+use Rattle.rl_base.proofs.Members.{In, all_in, in_map, map_in}
 use Rattle.rl_families.proofs.Sorting.{lower, Least, Sorted, in_order_sorted, in_order-filter}
 use Rattle.rl_families.proofs.Logs.{stamps_along-append, items_along-append, item_stamp}
 use Rattle.rl_families.proofs.Rising.{top_among, Rises, rises_from, behind_high, top_up, last_seq_among_up, settled}

@@ -7,8 +7,7 @@ use Rattle.rl_txn.specs.declared.batch.Batch.{Batch}
 use Rattle.rl_base.specs.Lists.{IsPrefix}
 use Rattle.rl_base.specs.Order.{IsBelow}
 use Rattle.rl_families.specs.Logs.{stamps_along, IsRising, last_stamp, last_seq_among}
-use Rattle.rl_base.proofs.Members.{In}
-use Rattle.rl_families.proofs.Members.{in_front, in_split}
+use Rattle.rl_base.proofs.Members.{In, in_prefix, in_split}
 use Rattle.rl_families.proofs.Logs.{stamps_along-append, last_seq_among-append}
 
 -- s is below each of these
@@ -148,14 +147,14 @@ behind_high (s ∷ ss) rest r t i born a b =
 
 pub top_up : (ss rest : List Stamp) → Rises (ss ++ rest) → top_among ss ≤ top_among (ss ++ rest)
 top_up [] rest r = omega arith
-top_up (s ∷ ss) rest r = let k = top_in s ss in let up = top_above ((s ∷ ss) ++ rest) r k.0 (in_front k.0 (s ∷ ss) rest k.1) in omega (arith, k.2)
+top_up (s ∷ ss) rest r = let k = top_in s ss in let up = top_above ((s ∷ ss) ++ rest) r k.0 (in_prefix (s ∷ ss) rest k.0 k.1) in omega (arith, k.2)
 
 -- an epoch below the top_epoch is settled
 pub settled : (ss rest : List Stamp) → Rises (ss ++ rest) → (e : ℕ) → e < top_among ss → last_seq_among (ss ++ rest) e ≤ last_seq_among ss e
 settled [] rest r e h = absurd (omega arith)
 settled (s ∷ ss) rest r e h = elim (last_seq_among_in ((s ∷ ss) ++ rest) e) [
   | inl z ↦ omega arith
-  | inr m ↦ elim (in_split m.0 (s ∷ ss) rest m.1) [
+  | inr m ↦ elim (in_split (s ∷ ss) rest m.0 m.1) [
     | inl i ↦ (let k = last_seq_among_above (s ∷ ss) m.0 i in let k2 = subst (λ n. m.0.seq ≤ last_seq_among (s ∷ ss) n) m.2 k in omega (arith, m.3))
     | inr i ↦ (let t = top_in s ss in absurd (elim (behind (s ∷ ss) rest r t.0 t.1 m.0 i) [ inl a ↦ omega (arith, t.2, m.2) | inr a ↦ omega (arith, a.0, t.2, m.2) ]))
   ]

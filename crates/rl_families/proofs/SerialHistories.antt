@@ -8,7 +8,6 @@ use Rattle.std.proofs.lemmas.List.Elements.{filter-append}
 use Rattle.std.proofs.lemmas.Bool.Decides.{nat_tests}
 use Rattle.rl_base.specs.Lists.{IsPrefix}
 use Rattle.rl_base.specs.Stamps.{packed}
-use Rattle.rl_base.proofs.Members.{In, in_contains}
 use Rattle.rl_value.specs.Rows.{Rows}
 use Rattle.rl_value.specs.Tables.{Table}
 use Rattle.rl_txn.specs.declared.op.Op.{Op}
@@ -19,7 +18,7 @@ use Rattle.rl_families.specs.Families.{history}
 use Rattle.rl_families.specs.Leaders.{logs_of_streams, Leaders, opening_list, AreLeaders, ArePrefixesOfLeaders}
 use Rattle.rl_families.specs.LeadersLogs.{AreSerialLeaders}
 use Rattle.rl_families.specs.Laws.{HistoriesAreSerial}
-use Rattle.rl_families.proofs.Members.{in_filter, filter_in}
+use Rattle.rl_base.proofs.Members.{In, in_contains, in_filter, filter_in}
 use Rattle.rl_families.proofs.Strict.{Strict, Less, strict_filter, down_prefix}
 use Rattle.rl_families.proofs.Streams.{in_history}
 use Rattle.rl_families.proofs.Extending.{decided_strict, decided_epoch, f_item, hist_strict, good_history}

@@ -7,13 +7,12 @@ use Rattle.rl_base.specs.declared.stamp.Stamp.{Stamp}
 use Rattle.rl_base.specs.Lists.{IsPrefix}
 use Rattle.rl_base.specs.Order.{is_below}
 use Rattle.rl_base.proofs.OrderLemmas.{is_below_tells, below_other}
-use Rattle.rl_base.proofs.Members.{In, contains_in, in_contains}
 use Rattle.rl_txn.specs.declared.item.Item.{Item}
 use Rattle.rl_txn.specs.declared.batch.Batch.{Batch}
 use Rattle.rl_families.specs.Logs.{stamps_along, items_along, IsRising}
 use Rattle.rl_families.specs.Families.{is_counted, history, IsInside}
 use Rattle.rl_families.specs.Streams.{log_at, IsStreamOf, HaveOtherStamps, IsStamped}
-use Rattle.rl_families.proofs.Members.{all_in}
+use Rattle.rl_base.proofs.Members.{In, contains_in, in_contains, all_in}
 use Rattle.rl_families.proofs.Logs.{item_stamp}
 use Rattle.rl_families.proofs.Rising.{Rises, rises_from}
 use Rattle.rl_families.proofs.Strict.{Apart, Diff, Strict, append_diff, log_diff, filter_diff, in_order_strict}

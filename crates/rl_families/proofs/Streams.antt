@@ -11,8 +11,7 @@ use Rattle.rl_base.specs.Lists.{IsPrefix}
 use Rattle.rl_families.specs.Logs.{stamps_along, items_along, IsRising, top_epoch, last_seq, last_seq_among}
 use Rattle.rl_families.specs.Families.{least_top, all_reached, is_counted, history, IsInside, AllRise}
 use Rattle.rl_families.specs.Leaders.{logs_of_streams}
-use Rattle.rl_base.proofs.Members.{In}
-use Rattle.rl_families.proofs.Members.{in_front, in_back, in_split, in_filter, filter_in}
+use Rattle.rl_base.proofs.Members.{In, in_prefix, in_suffix, in_split, in_filter, filter_in}
 use Rattle.rl_families.proofs.Sorting.{in_in_order, in_order_in}
 use Rattle.rl_families.proofs.Logs.{stamps_along-append, last_seq_among-append}
 use Rattle.rl_families.proofs.Rising.{Rises, from_rises, last_seq_among_in}
@@ -20,7 +19,7 @@ use Rattle.rl_families.proofs.Nesting.{Low, counts_tells, counts_from, history_n
 
 pub in_streams : (n : ℕ) (f : ℕ → List Batch) (log : List Batch) → In log (logs_of_streams n f) → (s : ℕ) × (1 ≤ s) × (s ≤ n) × (log ≡ f s)
 in_streams zero f log i = absurd i
-in_streams (suc n) f log i = elim (in_split log (logs_of_streams n f) (f (suc n) ∷ []) i) [
+in_streams (suc n) f log i = elim (in_split (logs_of_streams n f) (f (suc n) ∷ []) log i) [
   | inl j ↦ (let k = in_streams n f log j in (k.0, k.1, omega (arith, k.2), k.3))
   | inr j ↦ elim j [ inl e ↦ (suc n, omega arith, omega arith, e) | inr a ↦ absurd a ]
 ]
@@ -31,13 +30,13 @@ at_last s n h = grind arith
 pub streams_in : (n : ℕ) (f : ℕ → List Batch) (s : ℕ) → 1 ≤ s → s ≤ n → In (f s) (logs_of_streams n f)
 streams_in zero f s a b = absurd (omega arith)
 streams_in (suc n) f s a b = elim (at_last s n b) [
-  | inl e ↦ in_back (f s) (logs_of_streams n f) (f (suc n) ∷ []) (inl (ap f e))
-  | inr m ↦ in_front (f s) (logs_of_streams n f) (f (suc n) ∷ []) (streams_in n f s a m)
+  | inl e ↦ in_suffix (logs_of_streams n f) (f (suc n) ∷ []) (f s) (inl (ap f e))
+  | inr m ↦ in_prefix (logs_of_streams n f) (f (suc n) ∷ []) (f s) (streams_in n f s a m)
 ]
 
 pub in_logs : (x : Item) (logs : List (List Batch)) → In x (flat_map items_along logs) → (log : List Batch) × In log logs × In x (items_along log)
 in_logs x [] i = absurd i
-in_logs x (l ∷ ls) i = elim (in_split x (items_along l) (flat_map items_along ls) i) [
+in_logs x (l ∷ ls) i = elim (in_split (items_along l) (flat_map items_along ls) x i) [
   | inl j ↦ (l, inl refl, j)
   | inr j ↦ (let k = in_logs x ls j in (k.0, inr k.1, k.2))
 ]
@@ -45,8 +44,8 @@ in_logs x (l ∷ ls) i = elim (in_split x (items_along l) (flat_map items_along 
 pub logs_in : (x : Item) (logs : List (List Batch)) (log : List Batch) → In log logs → In x (items_along log) → In x (flat_map items_along logs)
 logs_in x [] log i j = absurd i
 logs_in x (l ∷ ls) log i j = elim i [
-  | inl e ↦ in_front x (items_along l) (flat_map items_along ls) (subst (λ z. In x (items_along z)) e j)
-  | inr k ↦ in_back x (items_along l) (flat_map items_along ls) (logs_in x ls log k j)
+  | inl e ↦ in_prefix (items_along l) (flat_map items_along ls) x (subst (λ z. In x (items_along z)) e j)
+  | inr k ↦ in_suffix (items_along l) (flat_map items_along ls) x (logs_in x ls log k j)
 ]
 
 counts_all : (family : List (List Batch)) (log : List Batch) (s : Stamp) → In log family → 0 < s.epoch → ((l : List Batch) → In l family → Low l s) → is_counted family s ≡ true

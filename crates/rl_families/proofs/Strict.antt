@@ -11,8 +11,7 @@ use Rattle.rl_base.specs.Order.{IsBelow}
 use Rattle.rl_base.proofs.OrderLemmas.{is_below_tells, is_below_from, below_trans}
 use Rattle.rl_families.specs.Order.{insert_by_stamp, in_order}
 use Rattle.rl_families.specs.Logs.{stamps_in_batch, items_in_batch, stamps_along, items_along}
-use Rattle.rl_base.proofs.Members.{In}
-use Rattle.rl_families.proofs.Members.{in_filter, in_map, in_back, in_split}
+use Rattle.rl_base.proofs.Members.{In, in_filter, in_map, in_suffix, in_split}
 use Rattle.rl_families.proofs.Sorting.{lower, in_insert, in_in_order}
 use Rattle.rl_families.proofs.Logs.{item_stamp}
 use Rattle.rl_families.proofs.Rising.{Rises, above_in, rises_front, rises_back, behind}
@@ -72,7 +71,7 @@ filter_diff f (x ∷ xs) d = elim (cases_Bool (f x)) [
 pub append_diff : (xs ys : List Item) → Diff xs → Diff ys → ((x y : Item) → In x xs → In y ys → Apart x y) → Diff (xs ++ ys)
 append_diff [] ys a b c = b
 append_diff (x ∷ xs) ys a b c =
-    ((λ y i. elim (in_split y xs ys i) [ inl j ↦ a.0 y j | inr j ↦ c x y (inl refl) j ]), append_diff xs ys a.1 b (λ u v i j. c u v (inr i) j))
+    ((λ y i. elim (in_split xs ys y i) [ inl j ↦ a.0 y j | inr j ↦ c x y (inl refl) j ]), append_diff xs ys a.1 b (λ u v i j. c u v (inr i) j))
 
 map_diff : (xs : List Item) → Rises (map (λ (x : Item). x.stamp) xs) → Diff xs
 map_diff [] r = tt
@@ -115,7 +114,7 @@ strict_apart (z ∷ zs) s x y i j = elim i [
 pub strict_cross : (xs ys : List Item) → Strict (xs ++ ys) → (x y : Item) → In x xs → In y ys → Less x y
 strict_cross [] ys s x y i j = absurd i
 strict_cross (z ∷ zs) ys s x y i j = elim i [
-  | inl e ↦ subst (λ (w : Item). Less w y) (sym e) (s.0 y (in_back y zs ys j))
+  | inl e ↦ subst (λ (w : Item). Less w y) (sym e) (s.0 y (in_suffix zs ys y j))
   | inr k ↦ strict_cross zs ys s.1 x y k j
 ]
 
@@ -129,7 +128,7 @@ strict_filter f (x ∷ xs) s = elim (cases_Bool (f x)) [
 pub strict_append : (xs ys : List Item) → Strict xs → Strict ys → ((x y : Item) → In x xs → In y ys → Less x y) → Strict (xs ++ ys)
 strict_append [] ys a b c = b
 strict_append (x ∷ xs) ys a b c =
-    ((λ y i. elim (in_split y xs ys i) [ inl j ↦ a.0 y j | inr j ↦ c x y (inl refl) j ]), strict_append xs ys a.1 b (λ u v i j. c u v (inr i) j))
+    ((λ y i. elim (in_split xs ys y i) [ inl j ↦ a.0 y j | inr j ↦ c x y (inl refl) j ]), strict_append xs ys a.1 b (λ u v i j. c u v (inr i) j))
 
 -- a part of a strict list that has with each item all below it stands at its head
 pub down_prefix : (xs ys : List Item) → Strict xs → Strict ys → ((x : Item) → In x xs → In x ys) → ((x y : Item) → In x xs → In y ys → Less y x → In y xs) → IsPrefix xs ys
@@ -149,7 +148,7 @@ down_prefix (x ∷ xs) (y ∷ ys) s r i d =
 pub same_members : (xs ys : List Item) → Strict xs → Strict ys → ((x : Item) → In x xs → In x ys) → ((x : Item) → In x ys → In x xs) → xs ≡ ys
 same_members xs ys s r i j =
     let p = down_prefix xs ys s r i (λ x y _ k _. j y k) in
-    nothing_more xs p.0 ys p.1 (subst (λ z. Strict z) (sym p.1) r) (λ y k. j y (subst (λ z. In y z) p.1 (in_back y xs p.0 k)))
+    nothing_more xs p.0 ys p.1 (subst (λ z. Strict z) (sym p.1) r) (λ y k. j y (subst (λ z. In y z) p.1 (in_suffix xs p.0 y k)))
   where
     nothing_more : (us rest vs : List Item) → us ++ rest ≡ vs → Strict (us ++ rest) → ((y : Item) → In y rest → In y us) → us ≡ vs
     nothing_more us [] vs e st h = sym (append-nil us) ∙ e

@@ -13,7 +13,6 @@ use Rattle.rl_base.specs.declared.stamp.Stamp.{Stamp}
 use Rattle.rl_base.specs.declared.bound.Bound.{Bound}
 use Rattle.rl_base.specs.declared.bound.Bound.TheVariants.{Final, Rising, Beyond}
 use Rattle.rl_base.specs.Order.{IsBelow}
-use Rattle.rl_base.proofs.Members.{In, contains_in, in_contains}
 use Rattle.rl_value.specs.Rows.{Rows}
 use Rattle.rl_txn.specs.declared.item.Item.{Item}
 use Rattle.rl_txn.specs.declared.batch.Batch.{Batch}
@@ -22,7 +21,8 @@ use Rattle.rl_families.specs.Order.{in_order}
 use Rattle.rl_families.specs.Logs.{items_along}
 use Rattle.rl_families.specs.Families.{least_top, all_reached, bound_of, watermark, is_counted, history}
 use Rattle.rl_families.specs.Streams.{log_at, IsStreamOf, IsStamped}
-use Rattle.rl_families.proofs.Members.{filter_in, pre_in}
+use Rattle.rl_base.proofs.Members.{In, contains_in, in_contains, filter_in}
+use Rattle.rl_base.proofs.Prefixes.{prefix_in}
 use Rattle.rl_families.proofs.Sorting.{in_order_in, in_in_order}
 use Rattle.rl_families.proofs.Nesting.{history_nests}
 use Rattle.rl_families.proofs.Strict.{not_self, in_order_strict, strict_apart, same_members}
@@ -253,7 +253,7 @@ replicas_go_on opening family r g h larger inside more =
         before = p.before;
         entry = entry_stays (log_at family p.stream) (log_at larger p.stream) (inside_log family larger inside (p.stream - 1)) p.number (item_entry x) p.entry;
       });
-      counted = λ x c. in_contains (history larger) x (pre_in x (history family) (history larger) (history_nests family larger inside more.rising) (contains_in (history family) x (h.counted x c)));
+      counted = λ x c. in_contains (history larger) x (prefix_in x (history family) (history larger) (history_nests family larger inside more.rising) (contains_in (history family) x (h.counted x c)));
       distinct = h.distinct;
       rows = h.rows;
     }

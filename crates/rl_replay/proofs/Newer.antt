@@ -12,8 +12,7 @@ use Rattle.rl_base.proofs.OrderLemmas.{not_below_self, below_one_way, not_below_
 use Rattle.rl_replay.specs.Replay.{is_at, writes_at, is_overwritten, newest_writes}
 use Rattle.rl_replay.specs.Newest.{Newest, is_old, fresh, stamped, IsNewestOf, IsNewest, AreNewest}
 use Rattle.rl_replay.proofs.Places.{at_same}
-use Rattle.rl_base.proofs.Members.{In, contains_in, in_contains}
-use Rattle.rl_families.proofs.Members.{in_front, in_back, in_split, any_true, any_false, false_any, true_any}
+use Rattle.rl_base.proofs.Members.{In, contains_in, in_contains, in_prefix, in_suffix, in_split, any_true, any_false, false_any, true_any}
 use Rattle.rl_replay.proofs.Stamped.{fresh_at}
 
 -- the newest stamp of a place tells whether a write there is overwritten
@@ -69,10 +68,10 @@ newest_more applied newest later x h e q = elim (cases_Bool (list_any (is_at q) 
     takes : list_any (is_at q) (fresh newest x.stamp x.writes) ≡ true → IsNewestOf (applied ++ x ∷ []) q x.stamp
     takes t = record {
       item = x;
-      among = in_contains (applied ++ x ∷ []) x (in_back x applied (x ∷ []) (inl refl));
+      among = in_contains (applied ++ x ∷ []) x (in_suffix applied (x ∷ []) x (inl refl));
       writes = fresh_written newest x.stamp q x.writes t;
       has = refl;
-      greatest = λ y k u. elim (in_split y applied (x ∷ []) (contains_in (applied ++ x ∷ []) y k)) [
+      greatest = λ y k u. elim (in_split applied (x ∷ []) y (contains_in (applied ++ x ∷ []) y k)) [
         | inl i ↦ elim (and_cases (is_below x.stamp y.stamp) (writes_at q y) (false_any (λ (z : Item). is_below x.stamp z.stamp && writes_at q z) applied (sym (old_is applied q (get newest q) x.stamp (h q)) ∙ fresh_at newest x.stamp q x.writes t) y i)) [
           | inl v ↦ v
           | inr v ↦ absurd (true≢false (sym u ∙ v))
@@ -82,7 +81,7 @@ newest_more applied newest later x h e q = elim (cases_Bool (list_any (is_at q) 
     }
 
     keeps : (o : Option Stamp) → IsNewest applied q o → (writes_at q x ≡ true → is_old o x.stamp ≡ true) → IsNewest (applied ++ x ∷ []) q o
-    keeps None g old = λ y k. elim (in_split y applied (x ∷ []) (contains_in (applied ++ x ∷ []) y k)) [
+    keeps None g old = λ y k. elim (in_split applied (x ∷ []) y (contains_in (applied ++ x ∷ []) y k)) [
       | inl i ↦ g y (in_contains applied y i)
       | inr i ↦ elim i [
         | inl v ↦ elim (cases_Bool (writes_at q x)) [ inl u ↦ absurd (true≢false (sym (old u))) | inr u ↦ ap (writes_at q) v ∙ u ]
@@ -91,10 +90,10 @@ newest_more applied newest later x h e q = elim (cases_Bool (list_any (is_at q) 
     ]
     keeps (Some s) g old = record {
       item = g.item;
-      among = in_contains (applied ++ x ∷ []) g.item (in_front g.item applied (x ∷ []) (contains_in applied g.item g.among));
+      among = in_contains (applied ++ x ∷ []) g.item (in_prefix applied (x ∷ []) g.item (contains_in applied g.item g.among));
       writes = g.writes;
       has = g.has;
-      greatest = λ y k u. elim (in_split y applied (x ∷ []) (contains_in (applied ++ x ∷ []) y k)) [
+      greatest = λ y k u. elim (in_split applied (x ∷ []) y (contains_in (applied ++ x ∷ []) y k)) [
         | inl i ↦ g.greatest y (in_contains applied y i) u
         | inr i ↦ elim i [
           | inl v ↦ ap (λ (z : Item). is_below s z.stamp) v ∙ below_one_way x.stamp s (old (ap (writes_at q) (sym v) ∙ u))

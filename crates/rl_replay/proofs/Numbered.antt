@@ -5,12 +5,11 @@ use Rattle.std.proofs.lemmas.List.{map-append}
 use Rattle.std.proofs.lemmas.Option.{slice_get_within}
 use Rattle.rl_base.specs.Order.{IsBelow}
 use Rattle.rl_base.specs.Lists.{IsPrefix}
-use Rattle.rl_base.proofs.Members.{In}
 use Rattle.rl_txn.specs.declared.item.Item.{Item}
 use Rattle.rl_txn.specs.declared.batch.Batch.{Batch}
 use Rattle.rl_txn.specs.declared.batch.Batch.TheVariants.{Items, Idle, Opened}
 use Rattle.rl_families.specs.Logs.{stamps_in_batch, items_in_batch, stamps_along, items_along}
-use Rattle.rl_families.proofs.Members.{in_front, in_back, in_split, in_map, map_in}
+use Rattle.rl_base.proofs.Members.{In, in_prefix, in_suffix, in_split, in_map, map_in}
 use Rattle.rl_families.proofs.Rising.{Rises, above_in}
 use Rattle.rl_replay.specs.Entries.{Entry, item_entry, entries_of, entries, entry_at}
 use Rattle.rl_replay.proofs.Walk.{entries-append, front}
@@ -32,9 +31,9 @@ batch_entry (Opened s) e i x h = elim i [ inl q ↦ absurd (let p : None ≡ Som
 
 pub log_entry : (log : List Batch) (e : Entry) → In e (entries log) → (x : Item) → e.item ≡ Some x → (e ≡ item_entry x) × In x (items_along log)
 log_entry [] e i x h = absurd i
-log_entry (b ∷ bs) e i x h = elim (in_split e (entries_of b) (entries bs) i) [
-  | inl j ↦ (let k = batch_entry b e j x h in (k.0, in_front x (items_in_batch b) (items_along bs) k.1))
-  | inr j ↦ (let k = log_entry bs e j x h in (k.0, in_back x (items_in_batch b) (items_along bs) k.1))
+log_entry (b ∷ bs) e i x h = elim (in_split (entries_of b) (entries bs) e i) [
+  | inl j ↦ (let k = batch_entry b e j x h in (k.0, in_prefix (items_in_batch b) (items_along bs) x k.1))
+  | inr j ↦ (let k = log_entry bs e j x h in (k.0, in_suffix (items_in_batch b) (items_along bs) x k.1))
 ]
 
 -- ---- stamps ----

@@ -1,8 +1,7 @@
 -- The writes of items, one after another.
 use Rattle.std.proofs.Common.{◌≡◌, ℕ, zero, suc, ◌+◌, ◌<◌, ◌≤◌, List, [], ◌∷◌, ◌++◌, length, map, get_or, take, Contains, refl, sym, ap, ◌∙◌, subst, ⊎_elim, arith}
 use Rattle.std.proofs.lemmas.List.{take_more, map-append, append_assoc, append-nil}
-use Rattle.rl_base.proofs.Members.{In, contains_in, in_contains}
-use Rattle.rl_families.proofs.Members.{in_map}
+use Rattle.rl_base.proofs.Members.{In, contains_in, in_contains, in_map}
 use Rattle.rl_txn.specs.declared.item.Item.{Item}
 use Rattle.rl_txn.specs.declared.write.Write.{Write}
 use Rattle.rl_shared_replay.specs.declared.view.Version.{Version}

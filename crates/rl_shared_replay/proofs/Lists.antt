@@ -1,16 +1,15 @@
 -- Members of lists, and cells by place.
 use Rattle.std.proofs.Common.{◌≡◌, ◌⊎◌, ℕ, zero, suc, ◌+◌, ◌<◌, ◌≤◌, List, [], ◌∷◌, ◌++◌, length, get_or, Contains, refl, sym, ap, subst, inl, inr, ⊎_elim, arith, length-append}
-use Rattle.rl_base.proofs.Members.{In, contains_in, in_contains}
-use Rattle.rl_families.proofs.Members.{in_front, in_back, in_split}
+use Rattle.rl_base.proofs.Members.{In, contains_in, in_contains, in_prefix, in_suffix, in_split}
 
 pub has_front : {X : Type 0} (xs ys : List X) (x : X) → Contains xs x → Contains (xs ++ ys) x
-has_front xs ys x c = in_contains (xs ++ ys) x (in_front x xs ys (contains_in xs x c))
+has_front xs ys x c = in_contains (xs ++ ys) x (in_prefix xs ys x (contains_in xs x c))
 
 pub has_back : {X : Type 0} (xs ys : List X) (x : X) → Contains ys x → Contains (xs ++ ys) x
-has_back xs ys x c = in_contains (xs ++ ys) x (in_back x xs ys (contains_in ys x c))
+has_back xs ys x c = in_contains (xs ++ ys) x (in_suffix xs ys x (contains_in ys x c))
 
 pub has_split : {X : Type 0} (xs ys : List X) (x : X) → Contains (xs ++ ys) x → Contains xs x ⊎ Contains ys x
-has_split xs ys x c = ⊎_elim (λ (i : In x xs). inl (in_contains xs x i)) (λ (i : In x ys). inr (in_contains ys x i)) (in_split x xs ys (contains_in (xs ++ ys) x c))
+has_split xs ys x c = ⊎_elim (λ (i : In x xs). inl (in_contains xs x i)) (λ (i : In x ys). inr (in_contains ys x i)) (in_split xs ys x (contains_in (xs ++ ys) x c))
 
 pub has_none : {X : Type 0} (x : X) → Contains [] x → ⊥
 has_none x c = contains_in [] x c

@@ -5,9 +5,8 @@ use Rattle.std.specs.List.{list_any}
 use Rattle.std.specs.FinMap.{get}
 use Rattle.std.proofs.lemmas.Bool.{cases_Bool}
 use Rattle.rl_base.specs.Stamps.{packed}
-use Rattle.rl_base.proofs.Members.{In, contains_in, in_contains}
 use Rattle.rl_families.specs.Order.{in_order}
-use Rattle.rl_families.proofs.Members.{any_false, true_any, in_split, map_in}
+use Rattle.rl_base.proofs.Members.{In, contains_in, in_contains, any_false, true_any, in_split, map_in}
 use Rattle.rl_families.proofs.Sorting.{in_in_order, in_order_in}
 use Rattle.rl_families.proofs.StampedLogs.{distinct_diff}
 use Rattle.rl_families.proofs.Strict.{Less, Strict, in_order_strict}
@@ -93,7 +92,7 @@ all_of P [] h x i = absurd i
 all_of P (p ∷ parts) h x i = ⊎_elim
     (λ (j : In x p). let c = in_contains p x j in subst P c.2 (h 0 p (omega arith) c.0 x c.1))
     (λ (j : In x (all_items parts)). all_of P parts (λ k d l. h (suc k) d (omega arith)) x j)
-    (in_split x p (all_items parts) i)
+    (in_split p (all_items parts) x i)
 
 -- the item and the write of a version
 version_from : (sizes : List ℕ) (xs : List Item) (v : Version) → Contains (versions_of sizes xs) v → (x : Item) × (w : Write) × In x xs × In w x.writes × (v ≡ version_of sizes (packed x.stamp) w)

@@ -4,8 +4,7 @@ use Rattle.std.specs.Prelude.{Some, None, nat_lt, IfSome}
 use Rattle.std.proofs.lemmas.Bool.Decides.{nat_tests}
 use Rattle.std.proofs.lemmas.List.{length-map, length-replicate}
 use Rattle.std.proofs.lemmas.List.Sums.{sum_by-cons}
-use Rattle.rl_base.proofs.Members.{In, contains_in, in_contains}
-use Rattle.rl_families.proofs.Members.{in_front, in_back}
+use Rattle.rl_base.proofs.Members.{In, contains_in, in_contains, in_prefix, in_suffix}
 use Rattle.rl_tables.proofs.Sizes.{size_at}
 use Rattle.rl_tables.specs.Numbers.{sizes_of, record_of, place_of, place_from}
 use Rattle.rl_txn.specs.Fits.{WriteFits}
@@ -58,8 +57,8 @@ place_of_record sizes q i = place_from_record 0 sizes q.0 q.1 i.table i.key ∙ 
 pub in_all_items : (parts : List (List Item)) (items : List Item) (x : Item) → In items parts → In x items → In x (all_items parts)
 in_all_items [] items x i j = absurd i
 in_all_items (p ∷ parts) items x i j = elim i [
-  | inl e ↦ in_front x p (all_items parts) (subst (λ (l : List Item). In x l) e j)
-  | inr m ↦ in_back x p (all_items parts) (in_all_items parts items x m j)
+  | inl e ↦ in_prefix p (all_items parts) x (subst (λ (l : List Item). In x l) e j)
+  | inr m ↦ in_suffix p (all_items parts) x (in_all_items parts items x m j)
 ]
 
 pub versions_in : (sizes : List ℕ) (xs : List Item) (x : Item) (v : Version) → In x xs → Contains (item_versions sizes x) v → Contains (versions_of sizes xs) v
