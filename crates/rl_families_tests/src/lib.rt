@@ -9,3 +9,5 @@ mod logs;
 mod plays;
 #[cfg(test)]
 mod queues;
+#[cfg(test)]
+mod yardstick;
