@@ -2,7 +2,7 @@
 
 ghost use Rattle.std.specs.Prelude.{◌≡◌, ◌≢◌, ℕ, ◌≤◌, List, length, take, IfOk};
 ghost use Rattle.rl_txn.specs.declared.batch.Batch.{Batch};
-ghost use Rattle.rl_replay.specs.Replay.{BeginsWithPlayed};
+ghost use Rattle.rl_replay.specs.Standing.{BeginsWithPlayed};
 
 use crate::items::{item, only};
 use rl_base::bound::Bound;
@@ -51,9 +51,9 @@ fn play_stream(
 ) -> Result<Played, Memory>
     requires first_stream { 1 ≤ stream }
     requires last_stream { stream ≤ 2 }
-    requires two { length replica.old.played ≡ 2 }
+    requires two { length replica.old.replaying.played ≡ 2 }
     requires begins { BeginsWithPlayed replica.old stream (take 1 log.now) }
-    ensures two { length replica.new.played ≡ 2 }
+    ensures two { length replica.new.replaying.played ≡ 2 }
     ensures begins { BeginsWithPlayed replica.new stream (take 1 log.now) }
     ensures others { (t : ℕ) (other : List Batch) → t ≢ stream → 1 ≤ t
         → BeginsWithPlayed replica.old t other → BeginsWithPlayed replica.new t other }
@@ -69,10 +69,10 @@ fn play(
     first: &Batches,
     second: &Batches,
 ) -> Result<Played, Memory>
-    requires two { length replica.old.played ≡ 2 }
+    requires two { length replica.old.replaying.played ≡ 2 }
     requires first { BeginsWithPlayed replica.old 1 (take 1 first.now) }
     requires second { BeginsWithPlayed replica.old 2 (take 1 second.now) }
-    ensures two { length replica.new.played ≡ 2 }
+    ensures two { length replica.new.replaying.played ≡ 2 }
     ensures first { BeginsWithPlayed replica.new 1 (take 1 first.now) }
     ensures second { BeginsWithPlayed replica.new 2 (take 1 second.now) }
 {
@@ -91,7 +91,7 @@ fn value(replica: &Replica) -> u64 {
 }
 
 fn two_streams(alloc: Global) -> Result<Replica, Memory>
-    ensures two { IfOk result (λ replica. length replica.played ≡ 2) }
+    ensures two { IfOk result (λ replica. length replica.replaying.played ≡ 2) }
     ensures begins { (s : ℕ) (log : List Batch) → 1 ≤ s → s ≤ 2 → IfOk result (λ r. BeginsWithPlayed r s log) }
 {
     let schema = Schema::new(alloc);

@@ -6,7 +6,6 @@ use Rattle.std.proofs.lemmas.List.Elements.{All-contains, Contains-get_or}
 use Rattle.rl_base.specs.declared.memory.Memory.{Memory}
 use Rattle.rl_value.specs.Rows.{Rows}
 use Rattle.rl_txn.specs.declared.item.Item.{Item}
-use Rattle.rl_replay.specs.declared.cursor.Cursor.{Cursor}
 use Rattle.rl_replay.specs.declared.played.Played.{Played}
 use Rattle.rl_replay.specs.declared.played.Played.TheVariants.{Applied}
 use Rattle.rl_replay.specs.Entries.{Entry}
@@ -15,22 +14,22 @@ use Rattle.rl_base.proofs.OrderLemmas.{same_stamp}
 use Rattle.rl_replay.proofs.Replays.{replays}
 
 -- an answer that adds nothing and goes no step leaves all as it was
-pub still : (r : Replaying) (s : ℕ) → r ≡ record { applied = r.applied ++ []; played = slice_set r.played (s - 1) (slice_index r.played (s - 1) + 0); cursors = r.cursors; rows = r.rows; failed = r.failed }
+pub still : (r : Replaying) (s : ℕ) → r ≡ record { applied = r.applied ++ []; played = slice_set r.played (s - 1) (slice_index r.played (s - 1) + 0); rows = r.rows; failed = r.failed }
 still r s =
-    let make : List Item → List ℕ → Replaying = λ a p. record { applied = a; played = p; cursors = r.cursors; rows = r.rows; failed = r.failed } in
+    let make : List Item → List ℕ → Replaying = λ a p. record { applied = a; played = p; rows = r.rows; failed = r.failed } in
     let none : slice_index r.played (s - 1) + 0 ≡ slice_index r.played (s - 1) = omega arith in
     let same : slice_set r.played (s - 1) (slice_index r.played (s - 1) + 0) ≡ r.played = ap (slice_set r.played (s - 1)) none ∙ set-get_or r.played (s - 1) 0 in
     sym (ap (λ a. make a (slice_set r.played (s - 1) (slice_index r.played (s - 1) + 0))) (append-nil r.applied) ∙ ap (make r.applied) same)
 
 -- every answer keeps a replay
-pub answer_replays : (opening : Rows) (r : Replaying) (s : ℕ) (next : Option Entry) (p : Played) (c : Cursor) → IsReplay opening r → IsReplay opening (after_answer r s next p c)
-answer_replays opening r s next (Applied t) c h = replays opening r.rows r.applied (item_in next) h
-answer_replays opening r s next _ c h = replays opening r.rows r.applied None h
+pub answer_replays : (opening : Rows) (r : Replaying) (s : ℕ) (next : Option Entry) (p : Played) → IsReplay opening r → IsReplay opening (after_answer r s next p)
+answer_replays opening r s next (Applied t) h = replays opening r.rows r.applied (item_in next) h
+answer_replays opening r s next _ h = replays opening r.rows r.applied None h
 
-pub state_replays : (result : Result Played Memory) (old new : Replaying) (s : ℕ) (next : Option Entry) (c : Cursor) → IfOk result (λ p. new ≡ after_answer old s next p c)
+pub state_replays : (result : Result Played Memory) (old new : Replaying) (s : ℕ) (next : Option Entry) → IfOk result (λ p. new ≡ after_answer old s next p)
     → (opening : Rows) → IsReplay opening old → OnOk result (IsReplay opening new)
-state_replays (Ok p) old new s next c e opening h = subst (IsReplay opening) (sym e) (answer_replays opening old s next p c h)
-state_replays (Err m) old new s next c e opening h = e
+state_replays (Ok p) old new s next e opening h = subst (IsReplay opening) (sym e) (answer_replays opening old s next p h)
+state_replays (Err m) old new s next e opening h = e
 
 -- ---- sets of items, told by their stamps ----
 among : (items others : List Item) → ((x y : Item) → Contains items x → Contains others y → x.stamp ≡ y.stamp → x ≡ y) → All (λ (x : Item). HasStamp items x.stamp) others → (x : Item) → Contains others x → Contains items x

@@ -1,6 +1,6 @@
 -- A replica over a family applies items of the family's history, no two of one stamp.
 use Rattle.std.proofs.Common.{◌≡◌, ◌≢◌, ◌⊎◌, ℕ, ◌+◌, ◌-◌, ◌<◌, ◌≤◌, List, [], ◌∷◌, ◌++◌, length, get_or, replicate, cond, Bool, true, false, ◌&&◌, ◌==◌, nat_lt, nat_le, Option, Some, None, Contains, refl, sym, ap, ◌∙◌, subst, arith, inl, inr, true≢false}
-use Rattle.std.specs.Prelude.{slice_index, slice_set, IfSome}
+use Rattle.std.specs.Prelude.{slice_index, slice_set}
 use Rattle.std.specs.List.{filter, flat_map}
 use Rattle.std.specs.Option.{option_map_or}
 use Rattle.std.proofs.lemmas.List.{append-nil, length-set, length-replicate, get_or-replicate, get_or-set_same, get_or-set_other}
@@ -29,15 +29,12 @@ use Rattle.rl_families.proofs.Strict.{not_self, in_order_strict, strict_apart, s
 use Rattle.rl_families.proofs.Streams.{logs_in}
 use Rattle.rl_families.proofs.StampedLogs.{log_in, rises_in, begun_in, history_strict, distinct_diff, inside_length, inside_log}
 use Rattle.rl_replay.specs.Entries.{Entry, item_entry, entries, entry_at}
-use Rattle.rl_replay.specs.Replay.{Replaying, next_entry, BeginsWithPlayed, item_answer, play_answer, newest_writes, after_answer, AreDistinct}
+use Rattle.rl_replay.specs.Replay.{Replaying, next_entry, item_answer, play_answer, newest_writes, after_answer, AreDistinct}
 use Rattle.rl_replay.specs.OverFamily.{IsReplicaOf}
 use Rattle.rl_replay.specs.Laws.{ReplicasBegin, ReplicasGoOn, IsBoundOf, PlayKeepsReplica, MemoryKeepsReplica, AppliedIdentified, RowsAtWatermark}
-use Rattle.rl_replay.specs.Cursors.{start, StandsBehind}
-use Rattle.rl_replay.specs.declared.cursor.Cursor.{Cursor}
 use Rattle.rl_replay.specs.declared.played.Played.{Played}
 use Rattle.rl_replay.specs.declared.played.Played.TheVariants.{Applied, Passed, Above}
 use Rattle.rl_replay.proofs.Answering.{still}
-use Rattle.rl_replay.proofs.Standing.{begins_on, begins_still, begins_here, begins_other}
 use Rattle.rl_replay.proofs.Replays.{rows_more}
 use Rattle.rl_replay.proofs.Numbered.{in_at, log_entry, entries_rise, entry_stays, entries_grow}
 
@@ -46,15 +43,6 @@ pub replicas_begin : ReplicasBegin
 replicas_begin opening family = record {
   streams = length-replicate (length family) 0;
   within = λ s is. (let z : slice_index (replicate (length family) 0) (s - 1) ≡ 0 = get_or-replicate (length family) (s - 1) 0 0 (omega (arith, is.low, is.high)) in omega arith);
-  begins = λ s is. (
-      let z : slice_index (replicate (length family) 0) (s - 1) ≡ 0 = get_or-replicate (length family) (s - 1) 0 0 (omega (arith, is.low, is.high)) in
-      let c : get_or (replicate (length family) start) (s - 1) start ≡ start = get_or-replicate (length family) (s - 1) start start (omega (arith, is.low, is.high)) in
-      record {
-        has = omega (arith, length-replicate (length family) start, is.low, is.high);
-        stands = subst (λ n. StandsBehind n (log_at family s) (get_or (replicate (length family) start) (s - 1) start)) (sym z)
-            (subst (StandsBehind 0 (log_at family s)) (sym c) (record { within = omega arith; counts = refl }));
-      }
-      );
   played = λ x c. absurd (omega (arith, c.1));
   counted = λ x c. absurd (omega (arith, c.1));
   distinct = λ i j d a l. absurd (omega arith);
@@ -135,15 +123,9 @@ module _ (opening : Rows) (family : List (List Batch)) (r : Replaying) (g : IsSt
       stands : (t n : ℕ) (z : Item) → entry_at (log_at family t) n ≡ Some (item_entry z) → Contains (items_along (log_at family t)) z
       stands t n z e = in_contains (items_along (log_at family t)) z (log_entry (log_at family t) (item_entry z) (in_at (entries (log_at family t)) n (item_entry z) e) z refl).1
 
-  module _ (s : ℕ) (is : IsStreamOf family s) (c : Cursor) where
+  module _ (s : ℕ) (is : IsStreamOf family s) where
     abbrev gone_on : List Item → Rows → Replaying
-    gone_on a m = record {
-      applied = a;
-      played = slice_set r.played (s - 1) (slice_index r.played (s - 1) + 1);
-      cursors = slice_set r.cursors (s - 1) c;
-      rows = m;
-      failed = r.failed;
-    }
+    gone_on a m = record { applied = a; played = slice_set r.played (s - 1) (slice_index r.played (s - 1) + 1); rows = m; failed = r.failed }
 
     here_index : s - 1 < length r.played
     here_index = omega (arith, is.low, is.high, h.streams)
@@ -161,19 +143,14 @@ module _ (opening : Rows) (family : List (List Batch)) (r : Replaying) (g : IsSt
         other a b n p q e = n (omega arith)
 
     -- one entry further on a stream, with what is applied then
-    goes_on : (a : List Item) (m : Rows) → StandsBehind (slice_index r.played (s - 1) + 1) (log_at family s) c → slice_index r.played (s - 1) < length (entries (log_at family s))
+    goes_on : (a : List Item) (m : Rows) → slice_index r.played (s - 1) < length (entries (log_at family s))
         → ((x : Item) → Contains a x → Contains r.applied x ⊎ (entry_at (log_at family s) (slice_index r.played (s - 1)) ≡ Some (item_entry x)))
         → ((x : Item) → Contains a x → Contains (history family) x) → AreDistinct a → (r.failed ≡ false → m ≡ rows_after opening (in_order a)) → IsReplicaOf opening family (gone_on a m)
-    goes_on a m behind more from counted distinct rows = record {
+    goes_on a m more from counted distinct rows = record {
       streams = length-set r.played (s - 1) (slice_index r.played (s - 1) + 1) ∙ h.streams;
       within = λ t it. elim (played_at t it.low) [
         | inl e ↦ subst (λ z. slice_index (slice_set r.played (s - 1) (slice_index r.played (s - 1) + 1)) (z - 1) ≤ length (entries (log_at family z))) (sym e) (omega (arith, played_here))
         | inr e ↦ (let k = h.within t it in omega arith)
-      ];
-      begins = λ t it. elim (eqb_tells t s) [
-        | inl e ↦ subst (λ z. BeginsWithPlayed (gone_on a m) z (log_at family z)) (sym e.1)
-            (begins_here r (gone_on a m) s (log_at family s) c refl refl here_index (h.begins s is).has behind)
-        | inr e ↦ begins_other r (gone_on a m) s c t (log_at family t) refl refl e.1 it.low is.low (h.begins t it)
       ];
       played = λ x c. elim (from x c) [
         | inl o ↦ (let p = h.played x o in record {
@@ -194,48 +171,47 @@ module _ (opening : Rows) (family : List (List Batch)) (r : Replaying) (g : IsSt
       rows = rows;
     }
 
-    passes : (next : Option Entry) (t : Stamp) → StandsBehind (slice_index r.played (s - 1) + 1) (log_at family s) c → slice_index r.played (s - 1) < length (entries (log_at family s)) → IsReplicaOf opening family (after_answer r s next (Passed t) c)
-    passes next t behind more = subst (λ z. IsReplicaOf opening family (gone_on z r.rows)) (sym (append-nil r.applied))
-        (goes_on r.applied r.rows behind more (λ x c. inl c) h.counted h.distinct h.rows)
+    passes : (next : Option Entry) (t : Stamp) → slice_index r.played (s - 1) < length (entries (log_at family s)) → IsReplicaOf opening family (after_answer r s next (Passed t))
+    passes next t more = subst (λ z. IsReplicaOf opening family (gone_on z r.rows)) (sym (append-nil r.applied))
+        (goes_on r.applied r.rows more (λ x c. inl c) h.counted h.distinct h.rows)
 
-    applies : (x : Item) (t : Stamp) → StandsBehind (slice_index r.played (s - 1) + 1) (log_at family s) c → entry_at (log_at family s) (slice_index r.played (s - 1)) ≡ Some (item_entry x) → is_counted family x.stamp ≡ true
-        → IsReplicaOf opening family (after_answer r s (Some (item_entry x)) (Applied t) c)
-    applies x t behind at counts =
+    applies : (x : Item) (t : Stamp) → entry_at (log_at family s) (slice_index r.played (s - 1)) ≡ Some (item_entry x) → is_counted family x.stamp ≡ true
+        → IsReplicaOf opening family (after_answer r s (Some (item_entry x)) (Applied t))
+    applies x t at counts =
         let distinct : AreDistinct (r.applied ++ x ∷ []) = all_pairs_push (λ (a b : Item). a.stamp ≢ b.stamp) r.applied x h.distinct
         (λ k d l. fresh_next s is x at (get_or r.applied k d) (contains_in r.applied (get_or r.applied k d) (Contains-get_or r.applied k d l))) in
         let stands = log_entry (log_at family s) (item_entry x) (in_at (entries (log_at family s)) (slice_index r.played (s - 1)) (item_entry x) at) x refl in
         let new : Contains (history family) x = in_contains (history family) x (in_order_in x (filter (λ (z : Item). is_counted family z.stamp) (flat_map items_along family))
         (filter_in (λ (z : Item). is_counted family z.stamp) x (flat_map items_along family) (logs_in x family (log_at family s) (log_in family s is) stands.1) counts)) in
-        goes_on (r.applied ++ x ∷ []) (after_writes r.rows (newest_writes r.applied x)) behind (slice_get_within (entries (log_at family s)) (slice_index r.played (s - 1)) (item_entry x) at)
+        goes_on (r.applied ++ x ∷ []) (after_writes r.rows (newest_writes r.applied x)) (slice_get_within (entries (log_at family s)) (slice_index r.played (s - 1)) (item_entry x) at)
         (λ y c. elim (Contains-push_cases r.applied x y c) [ inl o ↦ inl o | inr e ↦ inr (subst (λ z. entry_at (log_at family s) (slice_index r.played (s - 1)) ≡ Some (item_entry z)) e at) ])
         (λ y c. elim (Contains-push_cases r.applied x y c) [ inl o ↦ h.counted y o | inr e ↦ subst (Contains (history family)) e new ])
         distinct (λ f. rows_more opening r.rows r.applied x distinct (λ _. h.rows f))
 
     -- the answers to the next entry
-    by_answer : (x : Item) → StandsBehind (slice_index r.played (s - 1) + 1) (log_at family s) c → entry_at (log_at family s) (slice_index r.played (s - 1)) ≡ Some (item_entry x) → (p : Played) → item_answer x.stamp (bound_of family x.stamp.epoch) (watermark family).1 ≡ p
-        → IsReplicaOf opening family (after_answer r s (Some (item_entry x)) p c)
-    by_answer x behind at (Applied t) e =
+    by_answer : (x : Item) → entry_at (log_at family s) (slice_index r.played (s - 1)) ≡ Some (item_entry x) → (p : Played) → item_answer x.stamp (bound_of family x.stamp.epoch) (watermark family).1 ≡ p
+        → IsReplicaOf opening family (after_answer r s (Some (item_entry x)) p)
+    by_answer x at (Applied t) e =
         let stands = log_entry (log_at family s) (item_entry x) (in_at (entries (log_at family s)) (slice_index r.played (s - 1)) (item_entry x) at) x refl in
-        applies x t behind at (counts_applied family x.stamp t (begun_in family g (log_at family s) (log_in family s is) x stands.1) e)
-    by_answer x behind at (Passed t) e = passes (Some (item_entry x)) t behind (slice_get_within (entries (log_at family s)) (slice_index r.played (s - 1)) (item_entry x) at)
-    by_answer x behind at _ e = subst (IsReplicaOf opening family) (still r s) h
+        applies x t at (counts_applied family x.stamp t (begun_in family g (log_at family s) (log_in family s is) x stands.1) e)
+    by_answer x at (Passed t) e = passes (Some (item_entry x)) t (slice_get_within (entries (log_at family s)) (slice_index r.played (s - 1)) (item_entry x) at)
+    by_answer x at _ e = subst (IsReplicaOf opening family) (still r s) h
 
-    by_item : (e : Entry) → StandsBehind (slice_index r.played (s - 1) + 1) (log_at family s) c → entry_at (log_at family s) (slice_index r.played (s - 1)) ≡ Some e → (o : Option Item) → e.item ≡ o
-        → IsReplicaOf opening family (after_answer r s (Some e) (option_map_or (λ x. item_answer e.stamp (bound_of family e.stamp.epoch) (watermark family).1) o (Passed e.stamp)) c)
-    by_item e behind at None is_mark = passes (Some e) e.stamp behind (slice_get_within (entries (log_at family s)) (slice_index r.played (s - 1)) e at)
-    by_item e behind at (Some x) is_item =
+    by_item : (e : Entry) → entry_at (log_at family s) (slice_index r.played (s - 1)) ≡ Some e → (o : Option Item) → e.item ≡ o
+        → IsReplicaOf opening family (after_answer r s (Some e) (option_map_or (λ x. item_answer e.stamp (bound_of family e.stamp.epoch) (watermark family).1) o (Passed e.stamp)))
+    by_item e at None is_mark = passes (Some e) e.stamp (slice_get_within (entries (log_at family s)) (slice_index r.played (s - 1)) e at)
+    by_item e at (Some x) is_item =
         let k = log_entry (log_at family s) e (in_at (entries (log_at family s)) (slice_index r.played (s - 1)) e at) x is_item in
-        subst (λ (z : Entry). IsReplicaOf opening family (after_answer r s (Some z) (item_answer z.stamp (bound_of family z.stamp.epoch) (watermark family).1) c)) (sym k.0)
-        (by_answer x behind (at ∙ ap (λ (z : Entry). Some z) k.0) (item_answer x.stamp (bound_of family x.stamp.epoch) (watermark family).1) refl)
+        subst (λ (z : Entry). IsReplicaOf opening family (after_answer r s (Some z) (item_answer z.stamp (bound_of family z.stamp.epoch) (watermark family).1))) (sym k.0)
+        (by_answer x (at ∙ ap (λ (z : Entry). Some z) k.0) (item_answer x.stamp (bound_of family x.stamp.epoch) (watermark family).1) refl)
 
     pub plays : (next : Option Entry) → next_entry r s (log_at family s) ≡ next → (bound : Bound) → IsBoundOf family next bound
-        → IfSome next (λ _. StandsBehind (slice_index r.played (s - 1) + 1) (log_at family s) c)
-        → IsReplicaOf opening family (after_answer r s next (play_answer next bound (watermark family).1) c)
-    plays None e bound b behind = subst (IsReplicaOf opening family) (still r s) h
-    plays (Some n) e bound b behind = subst (λ z. IsReplicaOf opening family (after_answer r s (Some n) (play_answer (Some n) z (watermark family).1) c)) (sym b) (by_item n behind e n.item refl)
+        → IsReplicaOf opening family (after_answer r s next (play_answer next bound (watermark family).1))
+    plays None e bound b = subst (IsReplicaOf opening family) (still r s) h
+    plays (Some n) e bound b = subst (λ z. IsReplicaOf opening family (after_answer r s (Some n) (play_answer (Some n) z (watermark family).1))) (sym b) (by_item n e n.item refl)
 
 pub play_keeps : PlayKeepsReplica
-play_keeps opening family r g h s is bound b c behind = plays opening family r g h s is c (next_entry r s (log_at family s)) refl bound b behind
+play_keeps opening family r g h s is bound b = plays opening family r g h s is (next_entry r s (log_at family s)) refl bound b
 
 -- ---- as the family grows, and after `Memory` ----
 pub replicas_go_on : ReplicasGoOn
@@ -245,7 +221,6 @@ replicas_go_on opening family r g h larger inside more =
     record {
       streams = h.streams ∙ same;
       within = λ s is. (let k = h.within s (back s is) in let m = entries_grow (log_at family s) (log_at larger s) (inside_log family larger inside (s - 1)) in omega arith);
-      begins = λ s is. begins_on r s (log_at family s) (log_at larger s) (inside_log family larger inside (s - 1)) (h.begins s (back s is));
       played = λ x c. (let p = h.played x c in record {
         stream = p.stream;
         is_stream = record { low = p.is_stream.low; high = omega (arith, p.is_stream.high) };
@@ -264,7 +239,6 @@ memory_keeps opening family r g h p next failed f =
     record {
       streams = ap length f.played ∙ h.streams;
       within = λ s is. subst (λ z. slice_index z (s - 1) ≤ length (entries (log_at family s))) (sym f.played) (h.within s is);
-      begins = λ s is. begins_still r failed s (log_at family s) f.played f.cursors (h.begins s is);
       played = λ x c. (let q = h.played x (was x c) in record {
         stream = q.stream;
         is_stream = q.is_stream;

@@ -1,5 +1,6 @@
 -- What is true of every replica over a family.
 use Rattle.std.specs.Prelude.{◌≡◌, ℕ, List, [], false, length, replicate, Option, IfSome}
+use Rattle.rl_base.specs.Lists.{IsPrefix}
 use Rattle.rl_base.specs.declared.bound.Bound.{Bound}
 use Rattle.rl_value.specs.Rows.{Rows}
 use Rattle.rl_txn.specs.declared.batch.Batch.{Batch}
@@ -7,10 +8,9 @@ use Rattle.rl_txn.specs.Serial.{rows_after}
 use Rattle.rl_families.specs.Families.{bound_of, watermark, history, IsInside}
 use Rattle.rl_families.specs.Streams.{log_at, IsStreamOf, IsStamped}
 use Rattle.rl_replay.specs.Entries.{Entry}
-use Rattle.rl_replay.specs.Replay.{Replaying, next_entry, IsBehindNext, play_answer, after_answer, HasFailed, IsSameSet, StampsIdentify}
+use Rattle.rl_replay.specs.Replay.{Replaying, next_entry, play_answer, after_answer, HasFailed, IsSameSet, StampsIdentify}
 use Rattle.rl_replay.specs.OverFamily.{IsReplicaOf}
-use Rattle.rl_replay.specs.declared.cursor.Cursor.{Cursor}
-use Rattle.rl_replay.specs.Cursors.{start}
+use Rattle.rl_replay.specs.Standing.{StandingReplica, BeginsWithPlayed}
 use Rattle.rl_replay.specs.declared.played.Played.{Played}
 
 -- a replica that has played nothing of some logs
@@ -18,7 +18,6 @@ abbrev pub new_replica : (opening : Rows) → (family : List (List Batch)) → R
 new_replica opening family = record {
   applied = [];
   played = replicate (length family) 0;
-  cursors = replicate (length family) start;
   rows = opening;
   failed = false;
 }
@@ -42,18 +41,17 @@ ReplicasGoOn = ForReplicas (λ opening family r. (larger : List (List Batch))
 abbrev pub IsBoundOf : (family : List (List Batch)) → (next : Option Entry) → Bound → Type 0
 IsBoundOf family next bound = IfSome next (λ e. bound ≡ bound_of family e.stamp.epoch)
 
--- after the next entry of a stream, where the cursor behind it is this
-abbrev pub after_play : (family : List (List Batch)) → Replaying → (s : ℕ) → Bound → Cursor → Replaying
-after_play family r s bound c =
+-- after the next entry of a stream
+abbrev pub after_play : (family : List (List Batch)) → Replaying → (s : ℕ) → Bound → Replaying
+after_play family r s bound =
     after_answer r s (next_entry r s (log_at family s))
-    (play_answer (next_entry r s (log_at family s)) bound (watermark family).1) c
+    (play_answer (next_entry r s (log_at family s)) bound (watermark family).1)
 
 -- it stays one where it plays the next entry of a stream with the family's bound and watermark
 abbrev pub PlayKeepsReplica : Type 0
 PlayKeepsReplica = ForReplicas (λ opening family r. (s : ℕ) → IsStreamOf family s
     → (bound : Bound) → IsBoundOf family (next_entry r s (log_at family s)) bound
-    → (c : Cursor) → IsBehindNext r s (log_at family s) c
-    → IsReplicaOf opening family (after_play family r s bound c))
+    → IsReplicaOf opening family (after_play family r s bound))
 
 -- and where it runs out of memory
 abbrev pub MemoryKeepsReplica : Type 0
@@ -68,3 +66,8 @@ AppliedIdentified = ForReplicas (λ opening family r. StampsIdentify r.applied (
 abbrev pub RowsAtWatermark : Type 0
 RowsAtWatermark = ForReplicas (λ opening family r. r.failed ≡ false
     → IsSameSet (history family) r.applied → r.rows ≡ rows_after opening (history family))
+
+-- where a log begins with what a replica has played of a stream, so does every longer one
+abbrev pub LongerLogsBegin : Type 0
+LongerLogsBegin = (r : StandingReplica) (s : ℕ) (known longer : List Batch)
+    → IsPrefix known longer → BeginsWithPlayed r s known → BeginsWithPlayed r s longer

@@ -1,8 +1,10 @@
 pub mod Entries
 pub mod Cursors
 pub mod Replay
+pub mod Standing
 pub mod OverFamily
 pub mod Laws
 pub mod Newest
 pub mod Codes
+pub mod Steps
 pub mod Kept

@@ -8,7 +8,7 @@ use Rattle.rl_families.specs.Order.{in_order}
 use Rattle.rl_families.specs.Families.{history}
 use Rattle.rl_families.specs.Streams.{log_at, IsStreamOf}
 use Rattle.rl_replay.specs.Entries.{item_entry, entries, entry_at}
-use Rattle.rl_replay.specs.Replay.{Replaying, BeginsWithPlayed, AreDistinct}
+use Rattle.rl_replay.specs.Replay.{Replaying, AreDistinct}
 
 -- an item was played: it is an entry of some stream before the one that is next there
 pub record WasPlayed (family : List (List Batch)) (r : Replaying) (x : Item) : Type 0 where
@@ -24,8 +24,6 @@ pub record IsReplicaOf (opening : Rows) (family : List (List Batch)) (r : Replay
   pub streams : length r.played ≡ length family
   pub within : (s : ℕ) → IsStreamOf family s
       → slice_index r.played (s - 1) ≤ length (entries (log_at family s))
-  -- and stands there
-  pub begins : (s : ℕ) → IsStreamOf family s → BeginsWithPlayed r s (log_at family s)
   -- what it has applied it has played, and it counts in the family
   pub played : (x : Item) → Contains r.applied x → WasPlayed family r x
   pub counted : (x : Item) → Contains r.applied x → Contains (history family) x

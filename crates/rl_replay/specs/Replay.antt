@@ -1,6 +1,6 @@
 -- A replica: it goes over the known prefixes of the streams in any order, applies what counts, and
 -- lets the newer stamp win on each key (Rolis).
-use Rattle.std.specs.Prelude.{◌≡◌, ◌≢◌, ℕ, ◌+◌, ◌-◌, ◌<◌, List, [], ◌∷◌, ◌++◌, Bool, true, not, ◌&&◌, ◌==◌, nat_le, if◌then◌else◌, filter, take, slice_index, slice_index_or, slice_set, IfSome, length, AllPairs, All, Any, Contains, Option, option_to_list, option_and_then}
+use Rattle.std.specs.Prelude.{◌≡◌, ◌≢◌, ℕ, ◌+◌, ◌-◌, List, [], ◌∷◌, ◌++◌, Bool, true, not, ◌&&◌, ◌==◌, nat_le, if◌then◌else◌, filter, take, slice_index, slice_set, AllPairs, All, Any, Contains, Option, option_to_list, option_and_then}
 use Rattle.std.specs.List.{list_any}
 use Rattle.std.specs.Option.{option_map_or}
 use Rattle.rl_base.specs.declared.stamp.Stamp.{Stamp}
@@ -14,17 +14,14 @@ use Rattle.rl_txn.specs.Serial.{rows_after, after_writes}
 use Rattle.rl_base.specs.Order.{is_below}
 use Rattle.rl_families.specs.Order.{in_order}
 use Rattle.rl_replay.specs.Entries.{Entry, entry_at}
-use Rattle.rl_replay.specs.Cursors.{start, StandsBehind}
-use Rattle.rl_replay.specs.declared.cursor.Cursor.{Cursor}
 use Rattle.rl_replay.specs.declared.played.Played.{Played}
 use Rattle.rl_replay.specs.declared.played.Played.TheVariants.{Applied, Passed, Above, Empty}
 
--- a replica: the items that it has applied, how many entries of each stream it has played and where
--- in the stream's log it stands, its rows, and whether it was ever out of memory
+-- a replica: the items that it has applied, how many entries of each stream it has played, its
+-- rows, and whether it was ever out of memory
 pub record Replaying : Type 0 where
   pub applied : List Item
   pub played : List ℕ
-  pub cursors : List Cursor
   pub rows : Rows
   pub failed : Bool
 
@@ -32,17 +29,6 @@ pub record Replaying : Type 0 where
 -- from 1
 abbrev pub next_entry : Replaying → (s : ℕ) → (known : List Batch) → Option Entry
 next_entry r s known = entry_at known (slice_index r.played (s - 1))
-
--- a log begins with what a replica has played of a stream: the replica stands behind it
-pub record BeginsWithPlayed (r : Replaying) (s : ℕ) (known : List Batch) : Type 0 where
-  pub has : s - 1 < length r.cursors
-  pub stands : StandsBehind (slice_index r.played (s - 1)) known
-      (slice_index_or r.cursors (s - 1) start)
-
--- a cursor stands behind the entry that is next, if there is one
-abbrev pub IsBehindNext : Replaying → (s : ℕ) → (known : List Batch) → Cursor → Type 0
-IsBehindNext r s known c =
-    IfSome (next_entry r s known) (λ _. StandsBehind (slice_index r.played (s - 1) + 1) known c)
 
 -- what becomes of an item: one of a settled epoch counts up to that epoch's bound, one of the epoch
 -- of the watermark up to the watermark, and a later one does not count yet
@@ -74,19 +60,6 @@ entries_played (Applied s) = 1
 entries_played (Passed s) = 1
 entries_played _ = 0
 
--- the replica behind one more entry of a stream
-abbrev pub gone_on : Replaying → (s : ℕ) → Cursor → Replaying
-gone_on r s c = record r {
-  played = slice_set r.played (s - 1) (slice_index r.played (s - 1) + 1);
-  cursors = slice_set r.cursors (s - 1) c;
-}
-
--- the cursors after an answer: that of the stream goes behind the entry
-abbrev pub cursors_after : Played → List Cursor → (s : ℕ) → Cursor → List Cursor
-cursors_after (Applied t) cursors s c = slice_set cursors (s - 1) c
-cursors_after (Passed t) cursors s c = slice_set cursors (s - 1) c
-cursors_after _ cursors s c = cursors
-
 -- a write is at a place: a table and a key
 abbrev pub is_at : ℕ × ℕ → Write → Bool
 is_at q w = (q.0 == w.table) && (q.1 == w.key)
@@ -109,12 +82,11 @@ abbrev pub writes_made : (applied added : List Item) → List Write
 writes_made applied [] = []
 writes_made applied (x ∷ xs) = newest_writes applied x
 
--- the replica after an answer, where the cursor behind the next entry is this
-abbrev pub after_answer : Replaying → (s : ℕ) → Option Entry → Played → Cursor → Replaying
-after_answer r s next p c = record {
+-- the replica after an answer
+abbrev pub after_answer : Replaying → (s : ℕ) → Option Entry → Played → Replaying
+after_answer r s next p = record {
   applied = r.applied ++ items_added p next;
   played = slice_set r.played (s - 1) (slice_index r.played (s - 1) + entries_played p);
-  cursors = cursors_after p r.cursors s c;
   rows = after_writes r.rows (writes_made r.applied (items_added p next));
   failed = r.failed;
 }
@@ -133,7 +105,6 @@ pub record HasFailed (p : Played) (next : Option Entry) (old new : Replaying) : 
   pub failed : new.failed ≡ true
   pub applied : new.applied ≡ old.applied
   pub played : new.played ≡ old.played
-  pub cursors : new.cursors ≡ old.cursors
   pub prefix : (n : ℕ)
       × (new.rows ≡ after_writes old.rows (take n (writes_made old.applied (items_added p next))))
 

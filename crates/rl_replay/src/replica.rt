@@ -6,10 +6,11 @@ ghost use Rattle.rl_value.specs.Rows.{Rows};
 ghost use Rattle.rl_txn.specs.Serial.{after_writes};
 ghost use Rattle.rl_txn.specs.declared.batch.Batch.{Batch};
 ghost use Rattle.rl_families.specs.Order.{IsInOrder};
-ghost use Rattle.rl_replay.specs.Replay.{newest_writes, HasStamp, next_entry, BeginsWithPlayed, IsBehindNext, gone_on, item_answer, play_answer, after_answer, IsReplay, HasFailed, HaveSameStamps, IsSameSet, StampsIdentify};
+ghost use Rattle.rl_replay.specs.Replay.{newest_writes, HasStamp, next_entry, item_answer, play_answer, after_answer, IsReplay, HasFailed, HaveSameStamps, IsSameSet, StampsIdentify};
+ghost use Rattle.rl_replay.specs.Standing.{BeginsWithPlayed};
+ghost use Rattle.rl_replay.specs.Steps.{gone_on, standing_after};
 ghost use Rattle.rl_replay.specs.Entries.{entries_of, item_entry, mark_entry};
-ghost use Rattle.rl_replay.specs.Cursors.{start, next_place, FitsCursor, IsEntryAt};
-ghost use Rattle.rl_replay.specs.declared.cursor.Cursor.{Cursor};
+ghost use Rattle.rl_replay.specs.Cursors.{next_place, FitsCursor, IsEntryAt};
 
 use crate::cursor::{Cursor, find};
 use crate::newest::{Newest, apply_newest};
@@ -25,7 +26,8 @@ use std::alloc::Global;
 use std::collections::BTreeSet;
 use std::marker::Model;
 
-/// What a replica has of the streams. Contracts see what it has applied and played, and its rows.
+/// What a replica has of the streams. Contracts see what it has applied and played, its rows, and
+/// where it stands in each stream's log.
 #[derive(Drop)]
 pub struct Replica {
     map: Map,
@@ -38,36 +40,45 @@ pub struct Replica {
 }
 
 impl Model for Replica {
-    ghost use Rattle.rl_replay.specs.Replay.{Replaying};
+    ghost use Rattle.rl_replay.specs.Standing.{StandingReplica};
     ghost use Rattle.rl_replay.specs.Kept.{IsKept};
     ghost use Rattle.std.specs.Coded.{codes};
     ghost use Rattle.rl_replay.specs.Codes.{rows_code};
 
-    ghost Value = { Replaying };
+    ghost Value = { StandingReplica };
 
     ghost coded = { Prim.hlevel (codes, rows_code) };
 
-    ghost view = { λ r. record { applied = r.applied.items; played = r.played.items; cursors = r.cursors.items; rows = r.map; failed = r.failed } };
+    ghost view = { λ r. record {
+      replaying = record {
+        applied = r.applied.items;
+        played = r.played.items;
+        rows = r.map;
+        failed = r.failed;
+      };
+      cursors = r.cursors.items;
+    } };
 
     ghost invariant = { IsKept };
 }
 
 impl Replica {
     /// A replica of the opening rows, which are of the schema, that has played nothing of streams 1
-    /// to `streams`.
+    /// to `streams`. Every log begins with what it has played.
     pub fn new(
         alloc: Global,
         _schema: &Schema,
         opening: &Map,
         streams: u32,
     ) -> Result<Replica, Memory>
-        ensures { IfOk result (λ replica. replica ≡ record {
+        ensures replaying { IfOk result (λ replica. replica.replaying ≡ record {
           applied = [];
           played = replicate streams 0;
-          cursors = replicate streams start;
           rows = opening.now;
           failed = false;
         }) }
+        ensures begins { (s : ℕ) (log : List Batch) → 1 ≤ s → s ≤ streams
+            → IfOk result (λ replica. BeginsWithPlayed replica s log) }
     {
         let mut played = Vec::with_capacity(alloc, streams as usize)?;
         let mut cursors = Vec::with_capacity(alloc, streams as usize)?;
@@ -88,7 +99,7 @@ impl Replica {
 
     /// The rows.
     pub fn map(&self) -> &Map
-        ensures { result.now ≡ self.now.rows }
+        ensures { result.now ≡ self.now.replaying.rows }
     {
         &self.map
     }
@@ -97,10 +108,11 @@ impl Replica {
     /// where it has fewer; none where these are played out. They begin with what was played.
     pub fn next_epoch_of(&self, stream: u32, log: &Batches, known: u32) -> Option<u32>
         requires first_stream { 1 ≤ stream }
-        requires last_stream { stream ≤ length self.now.played }
+        requires last_stream { stream ≤ length self.now.replaying.played }
         requires begins { BeginsWithPlayed self.now stream (take known log.now) }
         ensures { result
-            ≡ option_map (λ e. e.stamp.epoch) (next_entry self.now stream (take known log.now)) }
+            ≡ option_map (λ e. e.stamp.epoch)
+            (next_entry self.now.replaying stream (take known log.now)) }
     {
         let known = first_batches(log, known);
         let (batch, at) = self.next(stream, known)?;
@@ -111,11 +123,13 @@ impl Replica {
     /// batches are played out.
     fn next<'a>(&self, stream: u32, known: &'a [Batch]) -> Option<(&'a Batch, Cursor)>
         requires first_stream { 1 ≤ stream }
-        requires last_stream { stream ≤ length self.now.played }
+        requires last_stream { stream ≤ length self.now.replaying.played }
         requires begins { BeginsWithPlayed self.now stream known.now }
-        ensures found { MatchOption result (next_entry self.now stream known.now ≡ None)
-            (λ found. IsEntryAt known.now (slice_index self.now.played (stream - 1)) found.0.now found.1) }
-        ensures fits { IfSome result (λ found. FitsCursor (slice_index self.now.played (stream - 1)) found.1) }
+        ensures found { let n = slice_index self.now.replaying.played (stream - 1) in
+            MatchOption result (next_entry self.now.replaying stream known.now ≡ None)
+            (λ found. IsEntryAt known.now n found.0.now found.1) }
+        ensures fits { let n = slice_index self.now.replaying.played (stream - 1) in
+            IfSome result (λ found. FitsCursor n found.1) }
         ensures room { IfSome result (λ found. found.1.place + 1 < 2 ^ 64) }
     {
         let at = self.cursors[stream as usize - 1];
@@ -139,22 +153,23 @@ impl Replica {
         watermark: u64,
     ) -> Result<Played, Memory>
         requires first_stream { 1 ≤ stream }
-        requires last_stream { stream ≤ length self.old.played }
+        requires last_stream { stream ≤ length self.old.replaying.played }
         requires begins { BeginsWithPlayed self.old stream (take known log.now) }
-        ensures answer { let next = next_entry self.old stream (take known log.now) in
+        ensures answer { let next = next_entry self.old.replaying stream (take known log.now) in
             IfOk result (λ p. p ≡ play_answer next bound watermark) }
-        ensures state { let next = next_entry self.old stream (take known log.now) in
-            IfOk result (λ p. (c : Cursor) × IsBehindNext self.old stream (take known log.now) c
-            × (self.new ≡ after_answer self.old stream next p c)) }
-        ensures streams { length self.new.played ≡ length self.old.played }
+        ensures state { let next = next_entry self.old.replaying stream (take known log.now) in
+            IfOk result (λ p. self.new.replaying ≡ after_answer self.old.replaying stream next p) }
+        ensures streams { length self.new.replaying.played ≡ length self.old.replaying.played }
         ensures begins { BeginsWithPlayed self.new stream (take known log.now) }
         ensures others { (t : ℕ) (other : List Batch) → t ≢ stream → 1 ≤ t
             → BeginsWithPlayed self.old t other → BeginsWithPlayed self.new t other }
-        ensures replay { (opening : Rows) → IsReplay opening self.old → OnOk result (IsReplay opening self.new) }
-        ensures err { let next = next_entry self.old stream (take known log.now) in
-            OnErr result (HasFailed (play_answer next bound watermark) next self.old self.new) }
-        ensures stays_failed { self.old.failed ≡ true → IsErr result }
-        ensures failed_is_kept { self.old.failed ≡ true → self.new ≡ self.old }
+        ensures replay { (opening : Rows) → IsReplay opening self.old.replaying
+            → OnOk result (IsReplay opening self.new.replaying) }
+        ensures err { let next = next_entry self.old.replaying stream (take known log.now) in
+            OnErr result (HasFailed (play_answer next bound watermark) next
+            self.old.replaying self.new.replaying) }
+        ensures stays_failed { self.old.replaying.failed ≡ true → IsErr result }
+        ensures failed_is_kept { self.old.replaying.failed ≡ true → self.new ≡ self.old }
     {
         if self.failed {
             return Err(Memory);
@@ -177,16 +192,18 @@ impl Replica {
         watermark: u64,
     ) -> Result<Played, Memory>
         requires first_stream { 1 ≤ stream }
-        requires last_stream { stream ≤ length self.old.played }
-        requires fits { FitsCursor (slice_index self.old.played (stream - 1)) at }
+        requires last_stream { stream ≤ length self.old.replaying.played }
+        requires fits { FitsCursor (slice_index self.old.replaying.played (stream - 1)) at }
         requires room { at.place + 1 < 2 ^ 64 }
-        requires working { self.old.failed ≡ false }
+        requires working { self.old.replaying.failed ≡ false }
         requires index { at.place < length (entries_of batch.now) }
         ensures answer { IfOk result (λ p. p ≡ play_answer (slice_get (entries_of batch.now) at.place) bound watermark) }
         ensures state { let next = slice_get (entries_of batch.now) at.place in
-            IfOk result (λ p. self.new ≡ after_answer self.old stream next p (next_place at)) }
+            IfOk result (λ p. self.new ≡ standing_after self.old stream next p (next_place at)) }
         ensures err { let next = slice_get (entries_of batch.now) at.place in
-            OnErr result (HasFailed (play_answer next bound watermark) next self.old self.new) }
+            OnErr result (HasFailed (play_answer next bound watermark) next
+            self.old.replaying self.new.replaying) }
+        ensures stands { OnErr result (self.new.cursors ≡ self.old.cursors) }
     {
         match batch {
             Batch::Items(items) => {
@@ -207,15 +224,17 @@ impl Replica {
         watermark: u64,
     ) -> Result<Played, Memory>
         requires first_stream { 1 ≤ stream }
-        requires last_stream { stream ≤ length self.old.played }
-        requires fits { FitsCursor (slice_index self.old.played (stream - 1)) at }
+        requires last_stream { stream ≤ length self.old.replaying.played }
+        requires fits { FitsCursor (slice_index self.old.replaying.played (stream - 1)) at }
         requires room { at.place + 1 < 2 ^ 64 }
-        requires working { self.old.failed ≡ false }
+        requires working { self.old.replaying.failed ≡ false }
         ensures answer { IfOk result (λ p. p ≡ item_answer item.now.stamp bound watermark) }
         ensures state { let next = Some (item_entry item.now) in
-            IfOk result (λ p. self.new ≡ after_answer self.old stream next p (next_place at)) }
+            IfOk result (λ p. self.new ≡ standing_after self.old stream next p (next_place at)) }
         ensures err { let next = Some (item_entry item.now) in
-            OnErr result (HasFailed (item_answer item.now.stamp bound watermark) next self.old self.new) }
+            OnErr result (HasFailed (item_answer item.now.stamp bound watermark) next
+            self.old.replaying self.new.replaying) }
+        ensures stands { OnErr result (self.new.cursors ≡ self.old.cursors) }
     {
         match answer_item(item.stamp, bound, watermark) {
             Played::Applied { stamp } => self.apply(alloc, stream, item, at),
@@ -234,16 +253,18 @@ impl Replica {
         at: Cursor,
     ) -> Result<Played, Memory>
         requires first_stream { 1 ≤ stream }
-        requires last_stream { stream ≤ length self.old.played }
-        requires fits { FitsCursor (slice_index self.old.played (stream - 1)) at }
+        requires last_stream { stream ≤ length self.old.replaying.played }
+        requires fits { FitsCursor (slice_index self.old.replaying.played (stream - 1)) at }
         requires room { at.place + 1 < 2 ^ 64 }
-        requires working { self.old.failed ≡ false }
+        requires working { self.old.replaying.failed ≡ false }
         ensures answer { IfOk result (λ p. p ≡ Played.Applied item.now.stamp) }
         ensures state { let next = Some (item_entry item.now) in
             OnOk result (self.new
-            ≡ after_answer self.old stream next (Played.Applied item.now.stamp) (next_place at)) }
+            ≡ standing_after self.old stream next (Played.Applied item.now.stamp) (next_place at)) }
         ensures err { let next = Some (item_entry item.now) in
-            OnErr result (HasFailed (Played.Applied item.now.stamp) next self.old self.new) }
+            OnErr result (HasFailed (Played.Applied item.now.stamp) next
+            self.old.replaying self.new.replaying) }
+        ensures stands { OnErr result (self.new.cursors ≡ self.old.cursors) }
     {
         self.keep(alloc, item)?;
         self.advance(stream, at);
@@ -252,13 +273,18 @@ impl Replica {
 
     /// Keeps an item and makes its writes.
     fn keep(&mut self, alloc: Global, item: &Item) -> Result<(), Memory>
-        requires { self.old.failed ≡ false }
+        requires { self.old.replaying.failed ≡ false }
         ensures kept { OnOk result (self.new ≡ record self.old {
-          applied = self.old.applied ++ item.now ∷ [];
-          rows = after_writes self.old.rows (newest_writes self.old.applied item.now);
+          replaying = record self.old.replaying {
+            applied = self.old.replaying.applied ++ item.now ∷ [];
+            rows = after_writes self.old.replaying.rows
+                (newest_writes self.old.replaying.applied item.now);
+          };
         }) }
         ensures err { let next = Some (item_entry item.now) in
-            OnErr result (HasFailed (Played.Applied item.now.stamp) next self.old self.new) }
+            OnErr result (HasFailed (Played.Applied item.now.stamp) next
+            self.old.replaying self.new.replaying) }
+        ensures stands { OnErr result (self.new.cursors ≡ self.old.cursors) }
     {
         self.failed = true;
         let kept = item.copy(alloc)?;
@@ -273,8 +299,8 @@ impl Replica {
     /// Skips an entry.
     fn skip(&mut self, stream: u32, at: Cursor, stamp: Stamp) -> Played
         requires first_stream { 1 ≤ stream }
-        requires last_stream { stream ≤ length self.old.played }
-        requires fits { FitsCursor (slice_index self.old.played (stream - 1)) at }
+        requires last_stream { stream ≤ length self.old.replaying.played }
+        requires fits { FitsCursor (slice_index self.old.replaying.played (stream - 1)) at }
         requires room { at.place + 1 < 2 ^ 64 }
         ensures answer { result ≡ Played.Passed stamp }
         ensures state { self.new ≡ gone_on self.old stream (next_place at) }
@@ -286,8 +312,8 @@ impl Replica {
     /// Goes on behind the entry at a cursor.
     fn advance(&mut self, stream: u32, at: Cursor)
         requires first_stream { 1 ≤ stream }
-        requires last_stream { stream ≤ length self.old.played }
-        requires fits { FitsCursor (slice_index self.old.played (stream - 1)) at }
+        requires last_stream { stream ≤ length self.old.replaying.played }
+        requires fits { FitsCursor (slice_index self.old.replaying.played (stream - 1)) at }
         requires room { at.place + 1 < 2 ^ 64 }
         ensures { self.new ≡ gone_on self.old stream (next_place at) }
     {
@@ -303,9 +329,9 @@ impl Replica {
     /// is in the order of its stamps.
     pub fn at_watermark(&self, history: &Items) -> bool
         requires { IsInOrder history.now }
-        ensures stamps { IsTrue result ↔ HaveSameStamps self.now.applied history.now }
-        ensures items { StampsIdentify self.now.applied history.now
-            → (IsTrue result ↔ IsSameSet history.now self.now.applied) }
+        ensures stamps { IsTrue result ↔ HaveSameStamps self.now.replaying.applied history.now }
+        ensures items { StampsIdentify self.now.replaying.applied history.now
+            → (IsTrue result ↔ IsSameSet history.now self.now.replaying.applied) }
     {
         self.has_same_stamps(history.as_slice())
     }
@@ -313,14 +339,14 @@ impl Replica {
     /// Whether each of some items in order was applied, and no other, told by their stamps.
     fn has_same_stamps(&self, items: &[Item]) -> bool
         requires { IsInOrder items.now }
-        ensures { IsTrue result ↔ HaveSameStamps self.now.applied items.now }
+        ensures { IsTrue result ↔ HaveSameStamps self.now.replaying.applied items.now }
     {
         self.has_applied(items) && are_among(&self.applied, items)
     }
 
     /// Whether each of some items has the stamp of one that was applied.
     fn has_applied(&self, items: &[Item]) -> bool
-        ensures { IsTrue result ↔ All (λ x. HasStamp self.now.applied x.stamp) items.now }
+        ensures { IsTrue result ↔ All (λ x. HasStamp self.now.replaying.applied x.stamp) items.now }
     {
         for item in items {
             if !self.stamps.contains(&(item.stamp.epoch, item.stamp.seq)) {

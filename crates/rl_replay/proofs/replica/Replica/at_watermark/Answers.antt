@@ -6,6 +6,6 @@ use Rattle.rl_replay.proofs.replica.Replica.at_watermark.Goals as goal
 
 pub returns : goal.returns
 returns c =
-    let told : IsTrue c.has_same_stamps.result ↔ HaveSameStamps c.args.self.now.applied c.args.history.now
-    = subst (λ (history : List Item). IsTrue c.has_same_stamps.result ↔ HaveSameStamps c.args.self.now.applied history) c.as_slice.ensures c.has_same_stamps.ensures in
-    record { stamps = told; items = same_sets c.args.self.now.applied c.args.history.now c.has_same_stamps.result told }
+    let told : IsTrue c.has_same_stamps.result ↔ HaveSameStamps c.args.self.now.replaying.applied c.args.history.now
+    = subst (λ (history : List Item). IsTrue c.has_same_stamps.result ↔ HaveSameStamps c.args.self.now.replaying.applied history) c.as_slice.ensures c.has_same_stamps.ensures in
+    record { stamps = told; items = same_sets c.args.self.now.replaying.applied c.args.history.now c.has_same_stamps.result told }

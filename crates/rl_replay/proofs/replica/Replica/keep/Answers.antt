@@ -4,7 +4,8 @@ use Rattle.std.specs.Result.{OnErr}
 use Rattle.rl_value.specs.Rows.{Rows}
 use Rattle.rl_txn.specs.declared.item.Item.{Item}
 use Rattle.rl_txn.specs.Serial.{after_writes}
-use Rattle.rl_replay.specs.Replay.{Replaying, newest_writes}
+use Rattle.rl_replay.specs.Replay.{newest_writes}
+use Rattle.rl_replay.specs.Standing.{StandingReplica}
 use Rattle.rl_replay.specs.Newest.{AreNewest}
 use Rattle.rl_replay.specs.Kept.{AreStampsOf}
 use Rattle.rl_replay.proofs.Newer.{fresh_is, newest_more}
@@ -17,20 +18,19 @@ on_err (Err e) p = p
 
 pub returns-in_err-apply_newest-clause-err : goal.returns-in_err-apply_newest-clause-err
 returns-in_err-apply_newest-clause-err c =
-    let was : c.self.inside.failed ≡ false = ap (λ (r : Replaying). r.failed) c.self.view_is ∙ c.requires in
+    let was : c.self.inside.failed ≡ false = ap (λ (r : StandingReplica). r.replaying.failed) c.self.view_is ∙ c.requires in
     let old : List Item = c.self.inside.applied.items in
     let made = c.in_err-apply_newest.ensures.prefix in
     rw (← c.self.view_is) (on_err c.from_residual-in_err-apply_newest.result (record {
       failed = refl;
       applied = c.reserve.ensures.items;
       played = refl;
-      cursors = refl;
       prefix = (made.0, made.1 ∙ ap (λ ws. after_writes c.self.inside.map (take made.0 ws)) (fresh_is old c.self.inside.newest c.args.item.now (c.self.invariant.newest was)));
     }))
 
 pub returns-in_err-insert-clause-err : goal.returns-in_err-insert-clause-err
 returns-in_err-insert-clause-err c =
-    let was : c.self.inside.failed ≡ false = ap (λ (r : Replaying). r.failed) c.self.view_is ∙ c.requires in
+    let was : c.self.inside.failed ≡ false = ap (λ (r : StandingReplica). r.replaying.failed) c.self.view_is ∙ c.requires in
     let old : List Item = c.self.inside.applied.items in
     let rows = c.in_ok-apply_newest.ensures.rows ∙ ap (after_writes c.self.inside.map) (fresh_is old c.self.inside.newest c.args.item.now (c.self.invariant.newest was)) in
     let all = newest_writes old c.args.item.now in
@@ -38,13 +38,12 @@ returns-in_err-insert-clause-err c =
       failed = refl;
       applied = c.reserve.ensures.items;
       played = refl;
-      cursors = refl;
       prefix = (length all, rows ∙ ap (after_writes c.self.inside.map) (sym (take_all (length all) all (omega arith))));
     }))
 
 pub invariant_of-self-2 : goal.invariant_of-self-2
 invariant_of-self-2 c =
-    let was : c.self.inside.failed ≡ false = ap (λ (r : Replaying). r.failed) c.self.view_is ∙ c.requires in
+    let was : c.self.inside.failed ≡ false = ap (λ (r : StandingReplica). r.replaying.failed) c.self.view_is ∙ c.requires in
     let old : List Item = c.self.inside.applied.items in
     let x : Item = c.args.item.now in
     let is = c.push_reserved.ensures.items ∙ ap (λ l. l ++ c.in_ok-kept.kept ∷ []) c.reserve.ensures.items ∙ ap (λ y. old ++ y ∷ []) c.in_ok-kept.ensures in
@@ -58,9 +57,9 @@ invariant_of-self-2 c =
 
 pub returns-clause-kept : goal.returns-clause-kept
 returns-clause-kept c =
-    let was : c.self.inside.failed ≡ false = ap (λ (r : Replaying). r.failed) c.self.view_is ∙ c.requires in
+    let was : c.self.inside.failed ≡ false = ap (λ (r : StandingReplica). r.replaying.failed) c.self.view_is ∙ c.requires in
     let old : List Item = c.self.inside.applied.items in
-    let make : List Item → Rows → Bool → Replaying = λ a r f. record { applied = a; played = c.self.inside.played.items; cursors = c.self.inside.cursors.items; rows = r; failed = f } in
+    let make : List Item → Rows → Bool → StandingReplica = λ a r f. record { replaying = record { applied = a; played = c.self.inside.played.items; rows = r; failed = f }; cursors = c.self.inside.cursors.items } in
     let is = c.push_reserved.ensures.items ∙ ap (λ l. l ++ c.in_ok-kept.kept ∷ []) c.reserve.ensures.items ∙ ap (λ y. old ++ y ∷ []) c.in_ok-kept.ensures in
     let rows = c.in_ok-apply_newest.ensures.rows ∙ ap (after_writes c.self.inside.map) (fresh_is old c.self.inside.newest c.args.item.now (c.self.invariant.newest was)) in
     rw (← c.self.view_is) (ap (λ a. make a c.apply_newest.new.map false) is ∙ ap (λ r. make (old ++ c.args.item.now ∷ []) r false) rows
