@@ -57,14 +57,16 @@ pub record ItemPlanned (made : Made) (x : Item) : Type 0 where
   pub epoch : x.stamp.epoch < 2 ^ 20
   pub seq : x.stamp.seq < 2 ^ 40
   pub writes : All (WriteFitsWords made) x.writes
-  pub among : (v : Version) → Contains (item_versions made.sizes x) v → Contains (plan_in made).versions v
+  pub among : (v : Version) → Contains (item_versions made.sizes x) v
+      → Contains (plan_in made).versions v
 
 -- the seat holds the record, has stored nothing, and the word was this
 pub record IsHolding (rec word : ℕ) (v : View) : Type 0 where
   pub held : v.held ≡ Some (record { rec = rec; old = stamp_in word; stored = [] })
   pub free : word % 2 ≡ 0
 
--- the seat holds the record of a version whose stamp is above the record's, and has stored its first k cells
+-- the seat holds the record of a version whose stamp is above the record's, and has stored its
+-- first k cells
 pub record IsStoring (made : Made) (x : Version) (k : ℕ) (v : View) : Type 0 where
   pub old : ℕ
   pub below : old < x.stamp

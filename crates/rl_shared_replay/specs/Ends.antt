@@ -22,7 +22,8 @@ pub record IsKey (sizes : List ℕ) (q : ℕ × ℕ) : Type 0 where
 
 -- each key has its newest row, and no other place has one
 pub record IsNewestMap (made : Made) (map : Rows) : Type 0 where
-  pub rows : (q : ℕ × ℕ) → IsKey made.sizes q → IsNewest (plan_in made) (record_of made.sizes q.0 q.1) (finite.get map q)
+  pub rows : (q : ℕ × ℕ) → IsKey made.sizes q
+      → IsNewest (plan_in made) (record_of made.sizes q.0 q.1) (finite.get map q)
   pub none : (q : ℕ × ℕ) → (IsKey made.sizes q → ⊥) → finite.get map q ≡ None
 
 -- a row is put where there is one

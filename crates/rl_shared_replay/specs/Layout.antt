@@ -1,5 +1,5 @@
--- Where the words of a record stand, and what they show. Word 0 is the one that a split and a join load. Each record
--- has six words: the record word, presence, and room for four columns.
+-- Where the words of a record stand, and what they show. Word 0 is the one that a split and a join
+-- load. Each record has six words: the record word, presence, and room for four columns.
 use Rattle.std.specs.Prelude.{◌≡◌, ℕ, ◌+◌, ◌*◌, ◌<◌, List, length, slice_index, Option}
 use Rattle.rl_base.specs.Words.{stamp_in}
 use Rattle.rl_value.specs.Cells.{cells_of}

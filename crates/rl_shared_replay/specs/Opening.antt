@@ -46,6 +46,7 @@ pub record CanOpen (made : Made) : Type 0 where
   pub records : length made.columns ≤ 65536
   pub wide : length made.words ≡ 1 + 6 * length made.columns
   pub free : (r : ℕ) → r < length made.columns → slice_index made.words (place r) ≡ 0
-  pub row : (r : ℕ) → r < length made.columns → (row : RowOf) × Shows (slice_index made.columns r) made.words r row
+  pub row : (r : ℕ) → r < length made.columns → (row : RowOf)
+      × Shows (slice_index made.columns r) made.words r row
   pub some : (r : ℕ) → r < length made.columns → 0 < slice_index made.columns r
   pub few : (r : ℕ) → slice_index made.columns r ≤ 4

@@ -1,5 +1,5 @@
--- The rule of the replay, which holds between any two atomic steps. It speaks of all words and of the views of all
--- seats.
+-- The rule of the replay, which holds between any two atomic steps. It speaks of all words and of
+-- the views of all seats.
 use Rattle.std.specs.Prelude.{◌≡◌, ◌≢◌, ℕ, ◌+◌, ◌*◌, ◌<◌, ◌≤◌, ◌⊎◌, List, length, slice_index, Contains, Some}
 use mathlib.Core.Option.{some}
 use lib.ListN.{get_elem?}
@@ -21,8 +21,8 @@ Shared = State (Unit {0}) View
 abbrev pub OfSome : (P : View → Type 0) (views : List View) → Type 0
 OfSome P views = (id : ℕ) × (v : View) × (get_elem? views id ≡ some v) × P v
 
--- what is to be replayed: how many records there are, the columns of each, the words as they opened, and the
--- versions of all writes of all parts
+-- what is to be replayed: how many records there are, the columns of each, the words as they
+-- opened, and the versions of all writes of all parts
 pub record Plan : Type 0 where
   pub records : ℕ
   pub columns : ℕ → ℕ
@@ -37,7 +37,8 @@ module _ (p : Plan) (words : List ℕ) where
   -- some view has made this version of r
   abbrev pub IsMade : (views : List View) (r stamp : ℕ) (row : RowOf) → Type 0
   IsMade views r stamp row =
-      (x : Version) × OfSome (λ v. Contains v.made x) views × (x.rec ≡ r) × (x.stamp ≡ stamp) × (x.row ≡ row)
+      (x : Version) × OfSome (λ v. Contains v.made x) views × (x.rec ≡ r) × (x.stamp ≡ stamp)
+          × (x.row ≡ row)
 
   -- what the rule says of one record
   pub record RecordFits (views : List View) (r : ℕ) : Type 0 where
@@ -58,7 +59,8 @@ module _ (p : Plan) (words : List ℕ) where
     -- presence and so many columns are all its cells
     pub few : length h.stored ≤ 1 + p.columns h.rec
     -- the cells that were stored stand in the words
-    pub stand : (k : ℕ) → k < length h.stored → slice_index words (cell_place h.rec k) ≡ slice_index h.stored k
+    pub stand : (k : ℕ) → k < length h.stored
+        → slice_index words (cell_place h.rec k) ≡ slice_index h.stored k
     -- and are those of a write of the plan, whose stamp is above the record's
     pub stored : 0 < length h.stored
         → (x : Version) × Contains p.versions x × (x.rec ≡ h.rec) × (stamp_at words h.rec < x.stamp)

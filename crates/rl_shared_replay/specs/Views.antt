@@ -38,7 +38,8 @@ with_cell v h cell = record v { held = Some (record { rec = h.rec; old = h.old; 
 abbrev pub let_go : (v : View) (h : Held) → View
 let_go v h = record { made = v.made; seen = v.seen ++ record { rec = h.rec; stamp = h.old } ∷ []; held = None }
 
--- Closing store of a new word: the record has a version of that stamp, with the row that was stored.
+-- Closing store of a new word: the record has a version of that stamp, with the row that was
+-- stored.
 abbrev pub renewed : (v : View) (h : Held) (stamp : ℕ) → View
 renewed v h stamp = record {
   made = v.made ++ record { rec = h.rec; stamp = stamp; row = row_of h.stored } ∷ [];

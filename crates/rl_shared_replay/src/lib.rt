@@ -1,4 +1,5 @@
-//! Replay by threads: one thread for each stream, over records as shared words, where the newer stamp wins.
+//! Replay by threads: one thread for each stream, over records as shared words, where the newer
+//! stamp wins.
 #![tactic(auto)]
 
 mod make;

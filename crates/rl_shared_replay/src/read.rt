@@ -17,7 +17,8 @@ use rl_value::row::Row;
 use std::alloc::Global;
 
 impl Records {
-    /// The rows at the end. A seat that has all writes settled tells that each is the newest of its key.
+    /// The rows at the end. A seat that has all writes settled tells that each is the newest of its
+    /// key.
     pub(crate) fn into_map(self, alloc: Global, seat: Seat) -> Result<Map, Memory>
         requires table { seat.table ≡ self.table }
         requires settled { AllSettled seat.view (plan_in self.made).versions }

@@ -37,7 +37,8 @@ impl Model for Records {
 }
 
 impl Records {
-    /// Makes one write, unless the record has a newer one. False where the record is busy: then nothing is made.
+    /// Makes one write, unless the record has a newer one. False where the record is busy: then
+    /// nothing is made.
     pub(crate) fn try_update(&self, seat: &mut Seat, update: &Update) -> bool
         requires table { seat.old.table ≡ self.now.table }
         requires record { update.now.rec < length self.now.made.columns }

@@ -18,9 +18,9 @@ use std::alloc::Global;
 use std::sync::Wait;
 use std::thread::Threads;
 
-/// The rows after all items of the parts in the order of their stamps, in every schedule. Each part has a thread,
-/// which makes a write where its stamp is newer than its record's. The opening rows and the items fit the schema,
-/// and no two items have one stamp.
+/// The rows after all items of the parts in the order of their stamps, in every schedule. Each part
+/// has a thread, which makes a write where its stamp is newer than its record's. The opening rows
+/// and the items fit the schema, and no two items have one stamp.
 ///
 /// `Memory`: nothing is left of the replay.
 pub fn replay<R: Threads + Wait + Sync>(

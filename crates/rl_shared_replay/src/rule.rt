@@ -6,8 +6,8 @@ use atomic_table::TableRule;
 use rl_tables::layout::Layout;
 use std::snapshot::Snapshot;
 
-/// What a replay starts from: the words as they open, the columns of each record, how many keys each table has,
-/// and the items of all streams.
+/// What a replay starts from: the words as they open, the columns of each record, how many keys
+/// each table has, and the items of all streams.
 #[derive(Drop)]
 pub struct Start {
     pub words: Vec<u64>,

@@ -22,7 +22,8 @@ pub struct Held {
     pub stored: LinkedList<u64>,
 }
 
-/// The view of a seat: the versions that it has made, the stamps that it has seen, and the record that it holds.
+/// The view of a seat: the versions that it has made, the stamps that it has seen, and the record
+/// that it holds.
 pub struct View {
     pub made: LinkedList<Version>,
     pub seen: LinkedList<Seen>,

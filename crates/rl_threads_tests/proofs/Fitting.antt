@@ -24,7 +24,7 @@ fit_none tables t k row e = absurd (none row (sym (get-empty place_cmp (t, k)) �
 pub fit_more : (tables : List Table) (m : Rows) (t k : ℕ) (row : List ℕ) → RowsFit tables m → t < length tables → k < size_of tables t → length row ≡ columns_of tables t → RowsFit tables (insert m (t, k) row)
 fit_more tables m t k row fit l n c u j x e = elim (cases_Bool (is_at (u, j) w)) [
   | inl s ↦ (let same = at_same (u, j) w s in let r = Some-injective row x (sym (found ∙ ap (λ b. cond b (Some row) (get m (u, j))) s) ∙ e) in
-    subst (λ (z : (ℕ × ℕ) × List ℕ). (z.0.0 < length tables) × (z.0.1 < size_of tables z.0.0) × (length z.1 ≡ columns_of tables z.0.0)) (λ i. (sym same i, r i)) (l, n, c))
+      subst (λ (z : (ℕ × ℕ) × List ℕ). (z.0.0 < length tables) × (z.0.1 < size_of tables z.0.0) × (length z.1 ≡ columns_of tables z.0.0)) (λ i. (sym same i, r i)) (l, n, c))
   | inr s ↦ fit u j x (sym (found ∙ ap (λ b. cond b (Some row) (get m (u, j))) s) ∙ e)
 ]
   where

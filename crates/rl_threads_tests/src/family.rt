@@ -20,8 +20,8 @@ use rl_value::row::Row;
 use rl_value::schema::{DeclareError, Schema};
 use std::alloc::Global;
 
-/// What an item does: in an epoch from 1 to 1000 it writes a row to a key of the first table, or deletes it. Numbers
-/// past the range are taken modulo it.
+/// What an item does: in an epoch from 1 to 1000 it writes a row to a key of the first table, or
+/// deletes it. Numbers past the range are taken modulo it.
 #[derive(Clone, Copy)]
 pub struct Step {
     pub epoch: u32,
@@ -130,7 +130,8 @@ fn write_of(schema: &Schema, step: Step) -> Write
     }
 }
 
-/// Plans of a seed: so many steps in all, dealt to the plans one after another. Every eighth deletes.
+/// Plans of a seed: so many steps in all, dealt to the plans one after another. Every eighth
+/// deletes.
 pub fn random_plans(
     alloc: Global,
     seed: u64,

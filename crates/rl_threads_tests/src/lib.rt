@@ -1,4 +1,5 @@
-//! Tests of replay by threads, with families of items made from steps, and a plain sequential replay to compare with.
+//! Tests of replay by threads, with families of items made from steps, and a plain sequential
+//! replay to compare with.
 #![tactic(auto)]
 
 pub mod family;

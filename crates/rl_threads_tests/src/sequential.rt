@@ -1,5 +1,5 @@
-//! A replay in one thread, which sorts the items by their stamps and makes their writes. Tests and benches compare
-//! with it.
+//! A replay in one thread, which sorts the items by their stamps and makes their writes. Tests and
+//! benches compare with it.
 
 use rl_base::memory::Memory;
 use rl_base::stamp::Stamp;
