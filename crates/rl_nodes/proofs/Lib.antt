@@ -1,4 +1,5 @@
 pub mod ChangesInStreams
+pub mod Deliveries
 pub mod ExamplesBadMessages
 pub mod ExamplesElections
 pub mod ExamplesFaults
@@ -6,5 +7,8 @@ pub mod ExamplesOneLeader
 pub mod Growing
 pub mod InStreams
 pub mod Listed
+pub mod OwnEvents
+pub mod Runs
 pub mod Scripts
+pub mod Tied
 pub mod Telling
