@@ -7,6 +7,7 @@ use Rattle.rl_base.specs.Results.{◌>>=◌}
 use Rattle.rl_base.proofs.Members.{In, in_contains, contains_in, all_in}
 use Rattle.rl_base.proofs.Tests.{both_true}
 use Rattle.rl_paxos.specs.Quorums.{is_node}
+use Rattle.rl_events.proofs.Kept.{expanded_fit}
 use Rattle.rl_events.specs.Fits.{EventFits, IsOneOf}
 use Rattle.rl_events.specs.declared.event.Event.{Event}
 use Rattle.rl_events.specs.declared.event.Event.TheVariants as event
@@ -137,7 +138,8 @@ same_worlds setup w r = record {
 }
 
 pub runs_are_streams : RunsAreStreams
-runs_are_streams setup events w fits is =
+runs_are_streams setup events w sized fits is =
+    let all_fit = expanded_fit setup.nodes setup.workers events sized.some_nodes sized.some_workers fits in
     let r : TiedRun setup w = subst (TiedTo setup) is
-    (events_tied setup (expanded_events setup events) (λ e i. all_in (EventFits setup.nodes setup.workers) (expanded_events setup events) fits e i) (new_world setup) (begins setup)) in
+    (events_tied setup (expanded_events setup events) (λ e i. all_in (EventFits setup.nodes setup.workers) (expanded_events setup events) all_fit e i) (new_world setup) (begins setup)) in
     (r.events, same_worlds setup w r)

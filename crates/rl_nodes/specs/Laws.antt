@@ -127,8 +127,8 @@ pub record AreSame (setup : Setup) (w : World) (streams : StreamWorld) : Type 0 
 
 -- of each run some events of the streams make the same
 abbrev pub RunsAreStreams : Type 0
-RunsAreStreams = (setup : Setup) (events : List Event) (w : World)
-    → All (EventFits setup.nodes setup.workers) (expanded_events setup events) → world_after setup events ≡ Ok w
+RunsAreStreams = (setup : Setup) (events : List Event) (w : World) → SetupFits setup
+    → All (EventFits setup.nodes setup.workers) events → world_after setup events ≡ Ok w
     → (es : List StreamEvent) × AreSame setup w (streams.streams_after (cluster_of setup) es)
 
 -- ---- tests ----
