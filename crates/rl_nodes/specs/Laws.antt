@@ -18,6 +18,8 @@ use Rattle.rl_replay.specs.Replay.{HaveSameStamps}
 use Rattle.rl_batch.specs.Encoding.{batch_bytes}
 use Rattle.rl_election.specs.World.{Envelope, StreamWorld, Up, Down}
 use Rattle.rl_election.specs.StreamEvents.{StreamEvent}
+use Rattle.rl_election.specs.Chosen.{IsLongestChosen}
+use Rattle.rl_election.specs.Laws.{SomeLog}
 use Rattle.rl_election.specs.StreamEvents as streams
 use Rattle.rl_msg.specs.declared.msg.Msg.{Msg}
 use Rattle.rl_nodes.specs.Answers.{Did, quiet}
@@ -28,7 +30,7 @@ use Rattle.rl_nodes.specs.Events.{world_after, after_event, after_events, expand
 use Rattle.rl_nodes.specs.Handles.{receives}
 use Rattle.rl_nodes.specs.Nodes.{Lead, NodeState, Leads}
 use Rattle.rl_nodes.specs.Safe.{Safe}
-use Rattle.rl_nodes.specs.Setups.{Setup, SetupFits, cluster_of}
+use Rattle.rl_nodes.specs.Setups.{Setup, SetupFits, cluster_of, stream_numbers}
 use Rattle.rl_nodes.specs.Streams.{envelope_of, stream_world, streams_after_doing, IsInStreams, HasBegun}
 use Rattle.rl_nodes.specs.Works.{proposes}
 use Rattle.rl_nodes.specs.Views.{have_same_stamps}
@@ -130,6 +132,12 @@ abbrev pub RunsAreStreams : Type 0
 RunsAreStreams = (setup : Setup) (events : List Event) (w : World) → SetupFits setup
     → All (EventFits setup.nodes setup.workers) events → world_after setup events ≡ Ok w
     → (es : List StreamEvent) × AreSame setup w (streams.streams_after (cluster_of setup) es)
+
+-- on each stream of each run some log is the longest that was chosen
+abbrev pub RunsHaveChosen : Type 0
+RunsHaveChosen = (setup : Setup) (events : List Event) (w : World) → SetupFits setup
+    → All (EventFits setup.nodes setup.workers) events → world_after setup events ≡ Ok w
+    → (s : ℕ) → Contains (stream_numbers setup) s → SomeLog (IsLongestChosen (cluster_of setup) (stream_world setup w) s)
 
 -- ---- tests ----
 
