@@ -32,7 +32,7 @@ use Rattle.rl_nodes.proofs.InStreams.{IsAnswer, same_terms, to_all_same, if_true
 true_le : (a b : ℕ) → nat_le a b ≡ true → a ≤ b
 true_le a b h = grind (arith, nat_tests)
 
-by_node : (nodes a : ℕ) → is_node nodes a ≡ true → (1 ≤ a) × (a ≤ nodes)
+pub by_node : (nodes a : ℕ) → is_node nodes a ≡ true → (1 ≤ a) × (a ≤ nodes)
 by_node nodes a h = let parts = both (nat_le 1 a) (nat_le a nodes) h in (true_le 1 a parts.0, true_le a nodes parts.1)
 
 same_test : (a b : ℕ) → a ≡ b → (a == b) ≡ true
@@ -151,4 +151,4 @@ leaders_propose_as_streams setup t lead s batch did up leads begun there is =
     let does : Did = sending (record t.state { part = Leads (with_leading lead s (proposed (leading lead s) b)) }) (to_each setup (λ to. msg.Accept t.node to lead.epoch s (length (leading lead s).log) b)) in
     subst (λ d. streams.proposes (cluster_of setup) t.streams t.node s b (t.streams.node t.node).role ≡ streams_after_doing t.streams t.node d)
     (same_did does did (full_if (length (leading lead s).log == SLOTS) does did (Err (StreamFull SLOTS)) (λ e. e) is))
-    (both_up setup t.streams t.node t.state lead h up s b there ∙ proposing setup t.streams t.node t.state lead h s b (begun s))
+    (both_up setup t.streams t.node t.state lead h up s b there ∙ proposing setup t.streams t.node t.state lead h s b begun)

@@ -87,7 +87,7 @@ grows_if false w r s a b = b
 
 -- ---- what a node did ----
 
-abbrev messages : List Sent → List Msg
+abbrev pub messages : List Sent → List Msg
 messages sent = map (λ (m : Sent). m.message) sent
 
 released_more : (released : List Item) (r : Option Release) → IsPrefix released (released_after released r)
@@ -138,7 +138,7 @@ changed_in change same (m ∷ ms) zero = ap (λ x. x ∷ messages ms) (same m)
 changed_in change same (m ∷ ms) (suc i) =
     changed_behind change m ms i (slice_get ms i) ∙ ap (λ xs. m.message ∷ xs) (changed_in change same ms i)
 
-changed : (change : Sent → Sent) → ((m : Sent) → (change m).message ≡ m.message) → (sent : List Sent) (number : ℕ)
+pub changed : (change : Sent → Sent) → ((m : Sent) → (change m).message ≡ m.message) → (sent : List Sent) (number : ℕ)
     → messages (changed_at change sent number) ≡ messages sent
 changed change same sent zero = refl
 changed change same sent (suc i) = changed_in change same sent i

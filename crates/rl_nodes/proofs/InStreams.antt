@@ -141,7 +141,7 @@ ack_keeps true stream acked e = e
 ack_keeps false stream acked e = refl
 
 -- what an Ack of stream s comes to
-abbrev after_ack : Lead → (s from len : ℕ) → Lead
+abbrev pub after_ack : Lead → (s from len : ℕ) → Lead
 after_ack lead s from len = with_leading lead s (with_ack (leading lead s) from len)
 
 module _ (setup : Setup) (w : StreamWorld) (a : ℕ) (x : NodeState) (lead : Lead) (h : IsInStreams w a (record x { part = Leads lead })) (s from len : ℕ) where
@@ -346,7 +346,7 @@ abbrev pub IsAnswer : Answer → Type 0
 IsAnswer (Ok did) = Unit {0}
 IsAnswer (Err e) = ⊥
 
-taken_of : (bad : Bool) (answer : Answer) (did : Did) → ◌≡◌ {A = Answer} (if bad then Err BadMessage else answer) (Ok did)
+pub taken_of : (bad : Bool) (answer : Answer) (did : Did) → ◌≡◌ {A = Answer} (if bad then Err BadMessage else answer) (Ok did)
     → (bad ≡ false) × (answer ≡ Ok did)
 taken_of true answer did is = absurd (subst IsAnswer (sym is) tt)
 taken_of false answer did is = (refl, is)
@@ -366,7 +366,7 @@ named setup a x m ok =
     let one = neither (is_astray setup a m) (is_usurped setup m) two.0 in
     (neither (not ((head_of m).to == a) || not (is_node setup.nodes (head_of m).from)) (option_map_or (λ s. not (is_node setup.workers s)) (stream_named m) false) one.0).1
 
-some_same : {A : Type 0} (x y : A) → Some x ≡ Some y → x ≡ y
+pub some_same : {A : Type 0} (x y : A) → Some x ≡ Some y → x ≡ y
 some_same x y e = ap (λ o. unwrap_or o x) e
 
 -- an option that has nothing

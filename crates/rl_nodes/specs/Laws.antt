@@ -1,5 +1,5 @@
 -- What is true of every run, whatever its steps, deliveries, losses, repeats, elections and crashes.
-use Rattle.std.specs.Prelude.{◌≡◌, ◌↔◌, ℕ, List, ◌++◌, map, All, Some, Ok, IsTrue}
+use Rattle.std.specs.Prelude.{◌≡◌, ◌↔◌, ℕ, List, ◌++◌, map, All, Contains, Some, Ok, IsTrue}
 use Rattle.rl_base.specs.Lists.{IsPrefix}
 use Rattle.rl_base.specs.Results.{◌>>=◌}
 use Rattle.rl_base.specs.declared.stamp.Stamp.{Stamp}
@@ -18,6 +18,8 @@ use Rattle.rl_replay.specs.Replay.{HaveSameStamps}
 use Rattle.rl_batch.specs.Encoding.{batch_bytes}
 use Rattle.rl_election.specs.World.{Envelope, StreamWorld, Up, Down}
 use Rattle.rl_election.specs.StreamEvents.{StreamEvent}
+use Rattle.rl_election.specs.Chosen.{IsLongestChosen}
+use Rattle.rl_election.specs.Laws.{SomeLog}
 use Rattle.rl_election.specs.StreamEvents as streams
 use Rattle.rl_msg.specs.declared.msg.Msg.{Msg}
 use Rattle.rl_nodes.specs.Answers.{Did, quiet}
@@ -28,8 +30,8 @@ use Rattle.rl_nodes.specs.Events.{world_after, after_event, after_events, expand
 use Rattle.rl_nodes.specs.Handles.{receives}
 use Rattle.rl_nodes.specs.Nodes.{Lead, NodeState, Leads}
 use Rattle.rl_nodes.specs.Safe.{Safe}
-use Rattle.rl_nodes.specs.Setups.{Setup, SetupFits, cluster_of}
-use Rattle.rl_nodes.specs.Streams.{envelope_of, streams_after_doing, IsInStreams, HasBegun}
+use Rattle.rl_nodes.specs.Setups.{Setup, SetupFits, cluster_of, stream_numbers}
+use Rattle.rl_nodes.specs.Streams.{envelope_of, stream_world, streams_after_doing, IsInStreams, HasBegun}
 use Rattle.rl_nodes.specs.Works.{proposes}
 use Rattle.rl_nodes.specs.Views.{have_same_stamps}
 use Rattle.rl_nodes.specs.World.{World, Sent}
@@ -112,9 +114,30 @@ pub record NodesChangeAsStreams : Type 0 where
 -- a batch that an open leader proposes is a proposal of the streams
 abbrev pub LeadersProposeAsStreams : Type 0
 LeadersProposeAsStreams = (setup : Setup) (t : Placed setup) (lead : Lead) (s : ℕ) (batch : Batch) (did : Did)
-    → t.state.state ≡ Up → t.state.part ≡ Leads lead → HasBegun (Leads lead) → IsTrue (is_node setup.workers s)
+    → t.state.state ≡ Up → t.state.part ≡ Leads lead → HasBegun lead s → IsTrue (is_node setup.workers s)
     → proposes setup t.node t.state lead s batch ≡ Ok did
     → Follows setup t (streams.Propose t.node s (batch_bytes batch)) did
+
+-- ---- whole runs ----
+
+-- a world of nodes and a world of streams are the same but for what is not between streams: node by node, the terms, and which
+-- messages were sent
+pub record AreSame (setup : Setup) (w : World) (streams : StreamWorld) : Type 0 where
+  pub nodes : (a : ℕ) → IsTrue (is_node setup.nodes a) → streams.node a ≡ (stream_world setup w).node a
+  pub terms : streams.terms ≡ w.terms
+  pub sent : (n : Envelope) → Contains streams.sent n ↔ Contains (stream_world setup w).sent n
+
+-- of each run some events of the streams make the same
+abbrev pub RunsAreStreams : Type 0
+RunsAreStreams = (setup : Setup) (events : List Event) (w : World) → SetupFits setup
+    → All (EventFits setup.nodes setup.workers) events → world_after setup events ≡ Ok w
+    → (es : List StreamEvent) × AreSame setup w (streams.streams_after (cluster_of setup) es)
+
+-- on each stream of each run some log is the longest that was chosen
+abbrev pub RunsHaveChosen : Type 0
+RunsHaveChosen = (setup : Setup) (events : List Event) (w : World) → SetupFits setup
+    → All (EventFits setup.nodes setup.workers) events → world_after setup events ≡ Ok w
+    → (s : ℕ) → Contains (stream_numbers setup) s → SomeLog (IsLongestChosen (cluster_of setup) (stream_world setup w) s)
 
 -- ---- tests ----
 

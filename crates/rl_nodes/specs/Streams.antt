@@ -5,7 +5,7 @@ use Rattle.rl_election.specs.World as streams
 use Rattle.rl_msg.specs.declared.msg.Msg.{Msg}
 use Rattle.rl_msg.specs.declared.msg.Msg.TheVariants.{Prepare, Promise, Sync, Accept, Ack, Known}
 use Rattle.rl_nodes.specs.Answers.{Did}
-use Rattle.rl_nodes.specs.Nodes.{NodeState, Part, Follows, Stands, Leads, leading}
+use Rattle.rl_nodes.specs.Nodes.{Lead, NodeState, Part, Follows, Stands, Leads, leading}
 use Rattle.rl_nodes.specs.Setups.{Setup}
 use Rattle.rl_nodes.specs.World.{World, Sent, node_of, term_of, terms_after}
 
@@ -60,7 +60,6 @@ pub record IsInStreams (w : streams.StreamWorld) (a : ℕ) (x : NodeState) : Typ
   pub node : w.node a ≡ stream_node x
   pub term : HasTerm w x.part
 
--- the log of each stream of a leader is as long as the one with which it began, or longer
-abbrev pub HasBegun : Part → Type 0
-HasBegun (Leads lead) = (s : ℕ) → (leading lead s).initial_len ≤ length (leading lead s).log
-HasBegun other = Unit {0}
+-- the log of stream s of a leader is as long as the one with which it began, or longer
+abbrev pub HasBegun : Lead → (s : ℕ) → Type 0
+HasBegun lead s = (leading lead s).initial_len ≤ length (leading lead s).log

@@ -1,6 +1,6 @@
 //! Laws of the definitions: the contract of each function is the law.
 
-ghost use Rattle.rl_nodes.specs.Laws.{RunsGoOn, EventsOnlyAdd, RunsOnlyAdd, NodesTakeAsStreams, NodesChangeAsStreams, LeadersProposeAsStreams, TestsTell};
+ghost use Rattle.rl_nodes.specs.Laws.{RunsGoOn, EventsOnlyAdd, RunsOnlyAdd, NodesTakeAsStreams, NodesChangeAsStreams, LeadersProposeAsStreams, RunsAreStreams, RunsHaveChosen, TestsTell};
 
 /// A run goes on from where its first events came to.
 pub fn runs_go_on()
@@ -28,4 +28,11 @@ pub fn nodes_are_streams()
 pub fn changes_are_streams()
     ensures alone { NodesChangeAsStreams }
     ensures proposes { LeadersProposeAsStreams }
+{}
+
+/// Of each run some events of the streams make the same nodes, terms and messages, so that what is true of all streams
+/// is true of all runs.
+pub fn runs_are_streams()
+    ensures same { RunsAreStreams }
+    ensures chosen { RunsHaveChosen }
 {}
