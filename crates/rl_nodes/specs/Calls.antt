@@ -1,5 +1,5 @@
 -- What the calls of a node leave behind, in memory and out of it.
-use Rattle.std.specs.Prelude.{◌≡◌, ◌⊎◌, ℕ, ◌-◌, List, map, slice_index, Option, Some, None, MatchOption, IfOk, Ok, Err}
+use Rattle.std.specs.Prelude.{◌≡◌, ◌⊎◌, ℕ, ◌-◌, List, map, slice_index, Option, Some, None, MatchOption, IsOkAnd, Ok, Err}
 use Rattle.std.specs.Option.{option_map_or}
 use Rattle.rl_msg.specs.declared.msg.Msg.{Msg}
 use Rattle.rl_msg.specs.Encoding.{msg_bytes}
@@ -44,9 +44,9 @@ pub record IsDone (old new : Standing) (answer : Answer) (did : Did) : Type 0 wh
   pub node : new.node ≡ did.node
   pub can : new.failed ≡ None
 
--- the acceptor is that before a call, or that after it
+-- the acceptor is that before a call, or that after what was due, if something was
 abbrev pub KeepsAcceptor : (old new : NodeState) → Answer → Type 0
-KeepsAcceptor old new answer = (new.acceptor ≡ old.acceptor) ⊎ IfOk answer (λ did. new.acceptor ≡ did.node.acceptor)
+KeepsAcceptor old new answer = (new.acceptor ≡ old.acceptor) ⊎ IsOkAnd answer (λ did. new.acceptor ≡ did.node.acceptor)
 
 -- a call has refused that could be made: a bad message and the want of an epoch leave the node unchanged; a full stream, where that was
 -- due, and want of memory, which may come at any call, leave it with that answer
