@@ -37,7 +37,8 @@ use Rattle.rl_nodes.specs.Nodes.{Lead, NodeState, Part, Follows, Stands, Leads, 
 use Rattle.rl_nodes.specs.Setups.{Setup, cluster_of, node_numbers, stream_numbers}
 use Rattle.rl_nodes.specs.Streams.{envelope_of, envelopes_of, stream_role, stream_node, HasTerm, HasBegun}
 use Rattle.rl_nodes.specs.Views.{plays}
-use Rattle.rl_nodes.specs.Works.{refused_in, may_idle, proposes, proposes_items, proposes_full, stepped, steps_core, idles_core, if_open, steps, flushes, idles}
+use Rattle.rl_worker.specs.OneTurn.{newly_refused}
+use Rattle.rl_nodes.specs.Works.{may_idle, proposes, proposes_items, proposes_full, stepped, steps_core, idles_core, if_open, steps, flushes, idles}
 use Rattle.rl_nodes.specs.World.{World, node_of, term_of, after_doing, after_answer}
 use Rattle.rl_nodes.proofs.ChangesInStreams.{nodes_change_as_streams, leaders_propose_as_streams}
 use Rattle.rl_nodes.proofs.Deliveries.{TiedTo, Reaches, HasSome, answered, in_range, in_numbers, flat_in, reach_each, reach_none}
@@ -207,7 +208,7 @@ module _ (setup : Setup) (w : World) (r : TiedRun setup w) (a : ℕ) (there : is
     stepping up s in_stream core =
         let after = turn (setup.work.setting lead.epoch) core (Step s) in
         let next : Lead = stepped lead core after s in
-        good_refusal (proposes_full setup a here next s) (refused_in core after)
+        good_refusal (proposes_full setup a here next s) (newly_refused core after)
         (good_if (nat_lt (length (pending_of next s)) setup.batch) (Ok (quiet (record here { part = Leads next }))) (proposes_items setup a here next s (pending_of next s))
         (leads_on (Some after) next.pending) (proposing up (Some after) (with_pending next s []).pending s in_stream (Items (pending_of next s))))
 
