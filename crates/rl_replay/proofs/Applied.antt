@@ -1,11 +1,12 @@
 -- The stamps of what was applied, and finding a stamp among items in order.
-use Rattle.std.proofs.Common.{◌≡◌, ◌⊎◌, ℕ, ◌<◌, ◌≤◌, List, [], ◌∷◌, ◌++◌, length, get_or, cond, true, false, ◌&&◌, ◌||◌, ◌==◌, nat_lt, sym, ap, ◌∙◌, subst, arith, inl, inr, true≢false}
+use Rattle.std.proofs.Common.{◌≡◌, ◌⊎◌, ℕ, ◌+◌, ◌-◌, ◌<◌, ◌≤◌, List, [], ◌∷◌, ◌++◌, length, get_or, cond, true, false, ◌&&◌, ◌||◌, ◌==◌, nat_lt, sym, ap, ◌∙◌, subst, arith, inl, inr, true≢false}
 use Rattle.std.specs.BTreeSet.{BTreeSet, contains, Updates}
 use Rattle.std.specs.List.Sorted.{IsPartitionedBy, IsPartitionPoint}
 use Rattle.std.specs.List.{list_any}
 use Rattle.std.specs.BTreeMap.{is_at}
 use Rattle.std.specs.Cmp.{Equal-is, eq_by_cmp_equiv}
-use Rattle.std.proofs.lemmas.Bool.{cases_Bool}
+use Rattle.std.proofs.lemmas.Bool.{cases_Bool, cases_lt}
+use Rattle.std.proofs.lemmas.List.{get_or_default}
 use Rattle.std.proofs.lemmas.Bool.Decides.{nat_tests}
 use Rattle.std.proofs.lemmas.List.Elements.{Contains-push, Contains-push_cases, Contains-append_left}
 use Rattle.std.proofs.lemmas.Option.{slice_get-get_or, same_Some}
@@ -34,6 +35,21 @@ parted items s up i j d le l t = elim (same_or_less i j le) [
       | inl t ↦ t
       | inr n ↦ absurd (true≢false (sym b ∙ not_below_chain s x y n a))
     ]
+
+-- items in order go on with one that is not below the last of them
+pub order_goes_on : (items : List Item) (n : ℕ) → 1 ≤ n → n < length items → ((a b : ℕ) (d : Item) → a < b → b < n → is_below (get_or items b d).stamp (get_or items a d).stamp ≡ false) → (x y : Item)
+    → is_below (get_or items n x).stamp (get_or items (n - 1) y).stamp ≡ false
+    → (a b : ℕ) (d : Item) → a < b → b < n + 1 → is_below (get_or items b d).stamp (get_or items a d).stamp ≡ false
+order_goes_on items n some within before x y last a b d lt less = elim (cases_lt b n) [
+  | inl l ↦ before a b d lt l
+  | inr g ↦ subst (λ m. is_below (get_or items m d).stamp (get_or items a d).stamp ≡ false) (let e : n ≡ b = omega arith in e) (elim (cases_lt a (n - 1)) [
+    | inl l ↦ not_below_chain (get_or items a d).stamp (get_or items (n - 1) d).stamp (get_or items n d).stamp (before a (n - 1) d l (omega arith)) here
+    | inr k ↦ subst (λ m. is_below (get_or items n d).stamp (get_or items m d).stamp ≡ false) (let e : n - 1 ≡ a = omega arith in e) here
+  ])
+]
+  where
+    here : is_below (get_or items n d).stamp (get_or items (n - 1) d).stamp ≡ false
+    here = rw (get_or_default items n d x within, get_or_default items (n - 1) d y (omega arith)) last
 
 -- a stamp is that of the first item that is not below it, or of none
 pub found_first : (items : List Item) (s : Stamp) (n : ℕ) → IsInOrder items → IsPartitionPoint (λ x. is_below x.stamp s ≡ true) (λ x. is_below x.stamp s ≡ false) items n

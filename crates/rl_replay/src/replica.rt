@@ -325,10 +325,9 @@ impl Replica {
         };
     }
 
-    /// Whether every item of a history was applied, and no other, told by their stamps. A history
-    /// is in the order of its stamps.
+    /// Whether every item of a history was applied, and no other, told by their stamps. It is fast
+    /// where the history is in the order of its stamps.
     pub fn at_watermark(&self, history: &Items) -> bool
-        requires { IsInOrder history.now }
         ensures stamps { IsTrue result ↔ HaveSameStamps self.now.replaying.applied history.now }
         ensures items { StampsIdentify self.now.replaying.applied history.now
             → (IsTrue result ↔ IsSameSet history.now self.now.replaying.applied) }
@@ -336,9 +335,8 @@ impl Replica {
         self.has_same_stamps(history.as_slice())
     }
 
-    /// Whether each of some items in order was applied, and no other, told by their stamps.
+    /// Whether each of some items was applied, and no other, told by their stamps.
     fn has_same_stamps(&self, items: &[Item]) -> bool
-        requires { IsInOrder items.now }
         ensures { IsTrue result ↔ HaveSameStamps self.now.replaying.applied items.now }
     {
         self.has_applied(items) && are_among(&self.applied, items)
@@ -372,17 +370,48 @@ fn answer_item(stamp: Stamp, bound: Bound, watermark: u64) -> Played
     }
 }
 
-/// Whether each of some items has the stamp of one of those in order.
-fn are_among(items: &[Item], in_order: &[Item]) -> bool
-    requires { IsInOrder in_order.now }
-    ensures { IsTrue result ↔ All (λ x. HasStamp in_order.now x.stamp) items.now }
+/// Whether each of some items has the stamp of one of the others.
+fn are_among(items: &[Item], others: &[Item]) -> bool
+    ensures { IsTrue result ↔ All (λ x. HasStamp others.now x.stamp) items.now }
 {
+    let sorted = are_in_order(others);
     for item in items {
-        if !has_stamp(in_order, item.stamp) {
+        if !stands_among(others, sorted, item.stamp) {
             return false;
         }
     }
     true
+}
+
+/// Whether no item has a stamp below that of one before it.
+fn are_in_order(items: &[Item]) -> bool
+    ensures { IsTrue result → IsInOrder items.now }
+{
+    for i in 1..items.len() {
+        if is_below(items[i].stamp, items[i - 1].stamp) {
+            return false;
+        }
+    }
+    true
+}
+
+/// Whether one of some items, which may be sorted, has a stamp.
+fn stands_among(items: &[Item], sorted: bool, stamp: Stamp) -> bool
+    requires { IsTrue sorted → IsInOrder items.now }
+    ensures { IsTrue result ↔ HasStamp items.now stamp }
+{
+    if sorted {
+        has_stamp(items, stamp)
+    } else {
+        some_has_stamp(items, stamp)
+    }
+}
+
+/// Whether one of some items has a stamp.
+fn some_has_stamp(items: &[Item], stamp: Stamp) -> bool
+    ensures { IsTrue result ↔ HasStamp items.now stamp }
+{
+    items.iter().any(|item| item.stamp.epoch == stamp.epoch && item.stamp.seq == stamp.seq)
 }
 
 /// Whether one of some items in order has a stamp.

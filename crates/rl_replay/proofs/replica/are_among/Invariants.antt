@@ -4,4 +4,4 @@ use Rattle.rl_replay.specs.Replay.{HasStamp}
 use Rattle.rl_replay.proofs.replica.are_among.Given as goal
 
 abbrev pub invariant-loop-item : goal.invariant-loop-item
-invariant-loop-item l = All (λ (x : Item). HasStamp l.in_order x.stamp) (take l.item-index l.items)
+invariant-loop-item l = All (λ (x : Item). HasStamp l.others x.stamp) (take l.item-index l.items)
