@@ -15,8 +15,8 @@ pub fn replicas_follow()
     ensures rows { RowsAtWatermark }
 {}
 
-/// Where a log begins with what a replica has played of a stream, so does every longer one: it
-/// goes on playing after its logs grew.
+/// Where a log begins with what a replica has played of a stream, so does every longer one, so that
+/// a replica goes on after its logs grew.
 pub fn logs_grow()
     ensures { LongerLogsBegin }
 {}
