@@ -38,7 +38,7 @@ module _ (p : Plan) (words : List ℕ) where
   abbrev pub IsMade : (views : List View) (r stamp : ℕ) (row : RowOf) → Type 0
   IsMade views r stamp row =
       (x : Version) × OfSome (λ v. Contains v.made x) views × (x.rec ≡ r) × (x.stamp ≡ stamp)
-          × (x.row ≡ row)
+      × (x.row ≡ row)
 
   -- what the rule says of one record
   pub record RecordFits (views : List View) (r : ℕ) : Type 0 where
