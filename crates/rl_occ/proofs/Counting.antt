@@ -17,7 +17,7 @@ use Rattle.rl_tables.proofs.Sizes.{size_at}
 use Rattle.rl_txn.specs.Eval.{is_new}
 use Rattle.rl_txn.specs.Run.{Overlay}
 use Rattle.rl_txn.proofs.RowSets.{places_total, same_place}
-use Rattle.rl_worker.proofs.Places.{place_of_record}
+use Rattle.rl_tables.proofs.Places.{place_of_record}
 use Rattle.rl_worker.proofs.Settings.{sizes_length}
 use Rattle.rl_store.specs.declared.view.Read.{Read}
 use Rattle.rl_store.specs.declared.view.View.{View}

@@ -10,7 +10,7 @@ use Rattle.rl_value.specs.Rows.{Rows, place_cmp}
 use Rattle.rl_value.specs.Tables.{Table, columns_of}
 use Rattle.rl_tables.specs.Numbers.{sizes_of, place_of}
 use Rattle.rl_tables.proofs.Sizes.{size_at}
-use Rattle.rl_txn.specs.Eval.{HasEnded, HasRows, IsEval, IsEnd, IsAsked, known, progress_of, rows_of}
+use Rattle.rl_txn.specs.Eval.{HasEnded, HasRows, IsEval, IsEnd, IsAsked, rows_given, progress_of, rows_of}
 use Rattle.rl_txn.specs.Fits.{TxnFits, WriteFits, RowHas}
 use Rattle.rl_txn.specs.Run.{Overlay, Progress, run, write_of, writes_of}
 use Rattle.rl_txn.specs.declared.eval.Eval.{Eval}
@@ -99,22 +99,22 @@ module _ (tables : List Table) where
   few_writes p (Declined op) n l = omega arith
 
   -- there are no more writes than ops
-  pub run_few : (txn : List Op) (e : Eval) → IsEval tables txn e → HasEnded e → length (run tables txn (rows_of (known e))).1 ≤ length txn
+  pub run_few : (txn : List Op) (e : Eval) → IsEval tables txn e → HasEnded e → length (run tables txn (rows_of (rows_given e))).1 ≤ length txn
   unfolding run
   run_few txn e ev ended = go e.wants ev.asked ended.asked
     where
-      go : (w : Option Wants) → IsAsked tables txn e w → IsEnd w → length (run tables txn (rows_of (known e))).1 ≤ length txn
+      go : (w : Option Wants) → IsAsked tables txn e w → IsEnd w → length (run tables txn (rows_of (rows_given e))).1 ≤ length txn
       go None a i = absurd i
       go (Some (wants.Read t k)) a i = absurd i
       go (Some (wants.Ended end)) a i =
-          let d = a (rows_of (known e)) (has_rows_of (known e)) in
+          let d = a (rows_of (rows_given e)) (has_rows_of (rows_given e)) in
           subst (λ (q : Progress × End). length (writes_of q.0 q.1) ≤ length txn) (sym d) (few_writes (progress_of e.work) end (length txn) (let r = ev.room.writes in let s = ev.room.done in omega arith))
 
-  pub has_run : (txn : List Op) (e : Eval) (v : View) (words : List Seen) (reply : Reply) (writes : List Write) → TxnFits tables txn → IsEval tables txn e → HasEnded e → HasRead tables v (known e) words
-      → ((rows : Rows) → HasRows (known e) rows → (reply, writes) ≡ run tables txn rows) → HasRun tables txn v reply writes
+  pub has_run : (txn : List Op) (e : Eval) (v : View) (words : List Seen) (reply : Reply) (writes : List Write) → TxnFits tables txn → IsEval tables txn e → HasEnded e → HasRead tables v (rows_given e) words
+      → ((rows : Rows) → HasRows (rows_given e) rows → (reply, writes) ≡ run tables txn rows) → HasRun tables txn v reply writes
   has_run txn e v words reply writes fits ev ended read ran =
-      let own : writes ≡ (run tables txn (rows_of (known e))).1 = ap (λ p. p.1) (ran (rows_of (known e)) (has_rows_of (known e))) in record {
-        run = λ rows has_. ran rows (has_known tables v (known e) words read rows has_);
-        writes_fit = subst (AreWrites tables) (sym own) (run_writes txn (rows_of (known e)) fits);
+      let own : writes ≡ (run tables txn (rows_of (rows_given e))).1 = ap (λ p. p.1) (ran (rows_of (rows_given e)) (has_rows_of (rows_given e))) in record {
+        run = λ rows has_. ran rows (has_known tables v (rows_given e) words read rows has_);
+        writes_fit = subst (AreWrites tables) (sym own) (run_writes txn (rows_of (rows_given e)) fits);
         few = subst (λ (ws : List Write). length ws ≤ length txn) (sym own) (run_few txn e ev ended);
       }

@@ -4,7 +4,7 @@ use Rattle.smallvec.specs.SmallVec.{SmallVec, HasRoomFor}
 use Rattle.rl_value.specs.Rows.{Rows}
 use Rattle.rl_value.specs.Tables.{Table}
 use Rattle.rl_tables.specs.Numbers.{sizes_of}
-use Rattle.rl_txn.specs.Eval.{IsEval, known, reads_room}
+use Rattle.rl_txn.specs.Eval.{IsEval, rows_given, reads_room}
 use Rattle.rl_txn.specs.Fits.{TxnFits}
 use Rattle.rl_txn.specs.Run.{run}
 use Rattle.rl_txn.specs.declared.op.Op.{Op}
@@ -52,7 +52,7 @@ HasLocked v locks = v.attempt ≡ record blank { reads = v.attempt.reads; held =
 
 -- what is kept fits the phase
 abbrev pub WorkFits : (tables : List Table) (txn : List Op) (made : Made) (v : View) (seen : SmallVec Seen) (locks : SmallVec Lock) → Work → Type 0
-WorkFits tables txn made v seen locks (Begun eval) = IsEval tables txn eval × HasRead tables v (known eval) seen.items × HasRoomFor seen (reads_room eval) × (locks.items ≡ []) × HasRoomFor locks (length txn)
+WorkFits tables txn made v seen locks (Begun eval) = IsEval tables txn eval × HasRead tables v (rows_given eval) seen.items × HasRoomFor seen (reads_room eval) × (locks.items ≡ []) × HasRoomFor locks (length txn)
 WorkFits tables txn made v seen locks (Executed reply writes) = HasLocked v [] × HasSeen tables v seen.items × HasRun tables txn v reply writes × (locks.items ≡ []) × HasRoomFor locks (length txn)
 WorkFits tables txn made v seen locks (Locked reply writes) = HasLocked v locks.items × HasSeen tables v seen.items × HasRun tables txn v reply writes × (map lock_rec locks.items ≡ map (rec_of tables) writes)
 WorkFits tables txn made v seen locks Stopped = IsStopped v locks.items × AreBelow (length made.columns) locks.items

@@ -4,7 +4,7 @@ ghost use Rattle.std.specs.Prelude.{◌≡◌, ◌<◌, List, IfOk, IfErr};
 ghost use Rattle.rl_value.specs.Tables.{Table};
 ghost use Rattle.rl_tables.specs.Numbers.{sizes_of};
 ghost use Rattle.rl_txn.specs.Fits.{TxnFits};
-ghost use Rattle.rl_txn.specs.Eval.{Awaits, HasEnded, IsEval, WantsFit, awaited, known, reads_room};
+ghost use Rattle.rl_txn.specs.Eval.{Awaits, HasEnded, IsEval, WantsFit, awaited, rows_given, reads_room};
 ghost use Rattle.rl_txn.specs.declared.eval.Wants.{Wants};
 ghost use Rattle.rl_txn.specs.declared.op.Op.{Op};
 ghost use Rattle.rl_store.specs.Refusals.{why};
@@ -38,12 +38,12 @@ pub fn run_on(
     requires store { IsStoreOf store.now.made schema.now }
     requires table { pass.old.table ≡ store.now.table }
     requires eval { IsEval schema.now txn.now eval.old }
-    requires read { HasRead schema.now pass.old.view (known eval.old) seen.old.items }
+    requires read { HasRead schema.now pass.old.view (rows_given eval.old) seen.old.items }
     requires room { HasRoomFor seen.old (reads_room eval.old) }
     ensures table { pass.new.table ≡ pass.old.table }
     ensures ended { IfOk result (λ _. HasEnded eval.new) }
     ensures eval { IfOk result (λ _. IsEval schema.now txn.now eval.new) }
-    ensures read { IfOk result (λ _. HasRead schema.now pass.new.view (known eval.new) seen.new.items) }
+    ensures read { IfOk result (λ _. HasRead schema.now pass.new.view (rows_given eval.new) seen.new.items) }
     ensures same { IfOk result (λ _. SameButAttempt pass.old.view pass.new.view) }
     ensures refused { IfErr result (λ refusal. pass.new.view ≡ refused pass.old.view (why refusal)) }
     ensures cause { IfErr result RefusesSome }
@@ -70,7 +70,7 @@ fn read_one(
     requires layout { layout.now ≡ sizes_of schema.now }
     requires store { IsStoreOf store.now.made schema.now }
     requires table { pass.old.table ≡ store.now.table }
-    requires read { HasRead schema.now pass.old.view (known eval.old) seen.old.items }
+    requires read { HasRead schema.now pass.old.view (rows_given eval.old) seen.old.items }
     requires room { HasRoomFor seen.old (reads_room eval.old) }
     requires awaits { Awaits eval.old }
     requires wants { awaited eval.old ≡ (table, key) }
@@ -79,7 +79,7 @@ fn read_one(
     ensures eval { (tables : List Table) (txn : List Op) → IsEval tables txn eval.old → IsEval tables txn eval.new }
     ensures less { IfOk result (λ _. reads_room eval.new < reads_room eval.old) }
     ensures room { IfOk result (λ _. HasRoomFor seen.new (reads_room eval.new)) }
-    ensures read { IfOk result (λ _. HasRead schema.now pass.new.view (known eval.new) seen.new.items) }
+    ensures read { IfOk result (λ _. HasRead schema.now pass.new.view (rows_given eval.new) seen.new.items) }
     ensures same { IfOk result (λ _. SameButAttempt pass.old.view pass.new.view) }
     ensures refused { IfErr result (λ refusal. pass.new.view ≡ refused pass.old.view (why refusal)) }
     ensures cause { IfErr result RefusesSome }

@@ -1,5 +1,5 @@
 use Rattle.std.proofs.Common.{◌≡◌}
-use Rattle.rl_txn.specs.Eval.{IsEval, known, reads_room}
+use Rattle.rl_txn.specs.Eval.{IsEval, rows_given, reads_room}
 use Rattle.smallvec.specs.SmallVec.{HasRoomFor}
 use Rattle.rl_occ.specs.Reading.{HasRead, SameButAttempt}
 use Rattle.rl_occ.proofs.read.run_on.Given as goal
@@ -9,7 +9,7 @@ abbrev pub invariant-loop-table : goal.invariant-loop-table
 invariant-loop-table l = record {
   table : l.pass.table ≡ l.fn.pass.table;
   eval : IsEval l.schema l.txn l.eval;
-  read : HasRead l.schema l.pass.view (known l.eval) l.seen.items;
+  read : HasRead l.schema l.pass.view (rows_given l.eval) l.seen.items;
   room : HasRoomFor l.seen (reads_room l.eval);
   same : SameButAttempt l.fn.pass.view l.pass.view;
 }

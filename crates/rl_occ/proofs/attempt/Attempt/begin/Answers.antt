@@ -1,5 +1,5 @@
 use Rattle.std.proofs.Common.{length, ap, sym, subst, arith}
-use Rattle.rl_txn.specs.Eval.{known}
+use Rattle.rl_txn.specs.Eval.{rows_given}
 use Rattle.rl_occ.specs.Reading.{HasRead}
 use Rattle.rl_occ.proofs.Runs.{none_read}
 use Rattle.rl_occ.proofs.attempt.Attempt.begin.Goals as goal
@@ -17,7 +17,7 @@ invariant_of-result c =
       record { table = c.requires.table; sizes = c.requires.layout; store_fits = c.requires.store; txn_fits = c.requires.fits },
       (
         c.in-Ok.ensures.begun,
-        subst (HasRead tables c.args.pass.view (known c.in-Ok.eval)) (sym none) (none_read tables c.args.pass.view (known c.in-Ok.eval) c.requires.rest c.in-Ok.ensures.none),
+        subst (HasRead tables c.args.pass.view (rows_given c.in-Ok.eval)) (sym none) (none_read tables c.args.pass.view (rows_given c.in-Ok.eval) c.requires.rest c.in-Ok.ensures.none),
         omega arith,
         c.in-Ok-with_capacity-2.ensures.items,
         omega arith,

@@ -1,5 +1,5 @@
 use Rattle.std.proofs.Common.{◌≡◌, sym, ◌∙◌, subst}
-use Rattle.rl_txn.specs.Eval.{known}
+use Rattle.rl_txn.specs.Eval.{rows_given}
 use Rattle.rl_occ.specs.declared.attempt.Work.{Work}
 use Rattle.rl_occ.specs.Working.{WorkFits}
 use Rattle.rl_occ.proofs.Runs.{has_run, has_seen}
@@ -18,7 +18,7 @@ invariant_of-self-2 c =
       record { table = told.table ∙ fits.table; sizes = fits.sizes; store_fits = fits.store_fits; txn_fits = fits.txn_fits },
       (
         told.read.only,
-        has_seen tables c.run_on.new.pass.view (known eval) c.run_on.new.seen.items told.read,
+        has_seen tables c.run_on.new.pass.view (rows_given eval) c.run_on.new.seen.items told.read,
         has_run tables txn eval c.run_on.new.pass.view c.run_on.new.seen.items c.finish-reply.result.0 c.finish-reply.result.1 fits.txn_fits told.eval told.ended told.read (λ rows has_. c.finish-reply.ensures tables txn rows told.eval has_),
         h.3,
         h.4,
