@@ -21,7 +21,7 @@ use Rattle.rl_nodes.specs.declared.node_error.NodeError.TheVariants.{StreamFull,
 use Rattle.rl_nodes.specs.Answers.{Did, Answer, sending, quiet, to_each}
 use Rattle.rl_nodes.specs.Elections.{stands, elects, crashed, returned, lost}
 use Rattle.rl_nodes.specs.Laws.{Placed, Follows, NodesChangeAsStreams, LeadersProposeAsStreams}
-use Rattle.rl_nodes.specs.Nodes.{Lead, NodeState, Leads, leading, with_leading, first_log}
+use Rattle.rl_nodes.specs.Nodes.{Lead, NodeState, Leads, leading, with_leading, initial_log_of}
 use Rattle.rl_nodes.specs.Setups.{Setup, cluster_of}
 use Rattle.rl_nodes.specs.Streams.{stream_node, streams_after_doing, IsInStreams}
 use Rattle.rl_nodes.specs.World.{term_of}
@@ -111,7 +111,7 @@ nodes_change_as_streams = record { elects = elects_as; crashes = crashes_as; ret
 
 -- ---- proposals ----
 
-first_proposed : (stream : Leading) (b : List ℕ) → stream.initial_len ≤ length stream.log → first_log (proposed stream b) ≡ first_log stream
+first_proposed : (stream : Leading) (b : List ℕ) → stream.initial_len ≤ length stream.log → initial_log_of (proposed stream b) ≡ initial_log_of stream
 first_proposed stream b short = take-append-le stream.initial_len stream.log (b ∷ []) short
 
 proposing : (setup : Setup) (w : StreamWorld) (a : ℕ) (x : NodeState) (lead : Lead) → IsInStreams w a (record x { part = Leads lead })
@@ -122,7 +122,7 @@ proposing : (setup : Setup) (w : StreamWorld) (a : ℕ) (x : NodeState) (lead : 
 proposing setup w a x lead h s b short = λ i. record {
   node = updated w.node a (h.node i);
   terms = updated w.terms lead.epoch (Some (record {
-    initial = sym (map-set_same first_log lead.streams (s - 1) (proposed (leading lead s) b) world.no_stream (first_proposed (leading lead s) b short)) i;
+    initial = sym (map-set_same initial_log_of lead.streams (s - 1) (proposed (leading lead s) b) world.no_stream (first_proposed (leading lead s) b short)) i;
     streams = slice_set lead.streams (s - 1) (proposed (leading lead s) b);
   }));
   sent = w.sent ++ to_all_same setup.nodes a (world.Accept lead.epoch s (length (leading lead s).log) b)

@@ -23,7 +23,7 @@ use Rattle.rl_nodes.specs.Answers.{Did, Answer, quiet, sending, to_each, unless_
 use Rattle.rl_nodes.specs.BadMessages.{is_bad, is_astray, is_usurped, is_partial, is_wrong, is_untrue, carried, stream_named}
 use Rattle.rl_nodes.specs.Events.{reaches, delivers}
 use Rattle.rl_nodes.specs.Handles.{promises, acks, knows, sync_to, new_lead, leads, recovers_full, stands_or_leads, takes_promise, known_to, opens, releases, advances, counts_ack, takes_ack, takes, receives}
-use Rattle.rl_nodes.specs.Nodes.{Lead, NodeState, Part, Follows, Stands, Leads, leading, led_len, led_history, has_opened, marks_are_led}
+use Rattle.rl_nodes.specs.Nodes.{Lead, NodeState, Part, Follows, Stands, Leads, leading, len_acknowledged, acknowledged_history, has_opened, marks_are_acknowledged}
 use Rattle.rl_nodes.specs.Setups.{Setup, cluster_of, node_numbers, stream_numbers}
 use Rattle.rl_nodes.specs.Streams.{envelope_of, envelopes_of, stream_node, HasTerm}
 use Rattle.rl_nodes.specs.World.{World, Sent, Line, NoMessage, Ran, node_of, with_line, sent_at, delivered, bytes_sent, after_doing, after_answer}
@@ -171,11 +171,11 @@ module _ (setup : Setup) (a : ℕ) where
       let new : Lead = after_ack lead s from len in
       let sends : List Msg = to_each setup (known_to a new s) in
       let each : AllReach setup.nodes sends = reach_each setup (known_to a new s) (λ k. refl) in
-      let other : Did = if marks_are_led new then opens setup x new sends else sending (record x { part = Leads new }) sends in
+      let other : Did = if marks_are_acknowledged new then opens setup x new sends else sending (record x { part = Leads new }) sends in
       reach_if (lead.epoch == e) (counts_ack setup a x lead s from len) (quiet x)
-      (reach_if (nat_lt (led_len (leading lead s)) (led_len (leading new s))) (advances setup a x lead new s) (quiet (record x { part = Leads new }))
-      (reach_if (has_opened new) (releases x (led_history lead) new sends) other each
-      (reach_if (marks_are_led new) (opens setup x new sends) (sending (record x { part = Leads new }) sends) each each))
+      (reach_if (nat_lt (len_acknowledged (leading lead s)) (len_acknowledged (leading new s))) (advances setup a x lead new s) (quiet (record x { part = Leads new }))
+      (reach_if (has_opened new) (releases x (acknowledged_history lead) new sends) other each
+      (reach_if (marks_are_acknowledged new) (opens setup x new sends) (sending (record x { part = Leads new }) sends) each each))
       (reach_none setup.nodes))
       (reach_none setup.nodes)
 

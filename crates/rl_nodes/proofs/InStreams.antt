@@ -29,7 +29,7 @@ use Rattle.rl_msg.specs.Parts.{head_of}
 use Rattle.rl_nodes.specs.Answers.{Did, Answer, quiet, unless_denied, to_each}
 use Rattle.rl_nodes.specs.BadMessages.{is_bad, is_astray, is_usurped, is_partial, is_wrong, is_untrue, carried, stream_named}
 use Rattle.rl_nodes.specs.Handles.{promises, acks, sync_to, new_lead, leads, recovers_full, takes_promise, known_to, advances, counts_ack, takes_ack, takes}
-use Rattle.rl_nodes.specs.Nodes.{Lead, NodeState, Part, Follows, Stands, Leads, leading, with_leading, first_log, led_len, led_history, has_opened, marks_are_led}
+use Rattle.rl_nodes.specs.Nodes.{Lead, NodeState, Part, Follows, Stands, Leads, leading, with_leading, initial_log_of, len_acknowledged, acknowledged_history, has_opened, marks_are_acknowledged}
 use Rattle.rl_nodes.specs.Setups.{Setup, cluster_of, node_numbers}
 use Rattle.rl_nodes.specs.Laws.{NodesTakeAsStreams}
 use Rattle.rl_nodes.specs.Streams.{envelope_of, envelopes_of, stream_role, stream_node, streams_after_doing, HasTerm, IsInStreams}
@@ -117,7 +117,7 @@ none_known a lead s (n ∷ ns) = none_known a lead s ns
 
 -- a leader whose stream s is another, with the same initial log, sends nothing between streams
 leads_on : (w : StreamWorld) (a : ℕ) (x : NodeState) (lead new : Lead) → IsInStreams w a (record x { part = Leads lead })
-    → (s : ℕ) (stream : Leading) → first_log stream ≡ first_log (leading lead s) → new ≡ record (with_leading lead s stream) { core = new.core }
+    → (s : ℕ) (stream : Leading) → initial_log_of stream ≡ initial_log_of (leading lead s) → new ≡ record (with_leading lead s stream) { core = new.core }
     → (messages : List Msg) → envelopes_of messages ≡ []
     → streams.with_term w lead.epoch (with_stream (term_of lead) s stream)
     ≡ record { node = updated w.node a (stream_node (record x { part = Leads new })); terms = updated w.terms new.epoch (Some (term_of new)); sent = w.sent ++ envelopes_of messages }
@@ -125,7 +125,7 @@ leads_on w a x lead new h s stream same is messages none =
     sym {A = StreamWorld} (λ i. record {
       node = update_same w.node a (stream_node (record x { part = Leads lead })) h.node i;
       terms = updated w.terms lead.epoch (Some (record {
-        initial = map-set_same first_log lead.streams (s - 1) stream world.no_stream same i;
+        initial = map-set_same initial_log_of lead.streams (s - 1) stream world.no_stream same i;
         streams = slice_set lead.streams (s - 1) stream;
       }));
       sent = (ap (λ es. w.sent ++ es) none ∙ append-nil w.sent) i;
@@ -136,7 +136,7 @@ leads_on w a x lead new h s stream same is messages none =
       sent = w.sent ++ envelopes_of messages;
     }) (sym is)
 
-ack_keeps : (b : Bool) (stream acked : Leading) → first_log acked ≡ first_log stream → first_log (if b then acked else stream) ≡ first_log stream
+ack_keeps : (b : Bool) (stream acked : Leading) → initial_log_of acked ≡ initial_log_of stream → initial_log_of (if b then acked else stream) ≡ initial_log_of stream
 ack_keeps true stream acked e = e
 ack_keeps false stream acked e = refl
 
@@ -165,12 +165,12 @@ module _ (setup : Setup) (w : StreamWorld) (a : ℕ) (x : NodeState) (lead : Lea
       let sends : List Msg = to_each setup (known_to a new s) in
       let none : envelopes_of sends ≡ [] = none_known a new s (node_numbers setup) in
       by_if (has_opened new) _ _ (acked_as new refl sends none)
-      (by_if (marks_are_led new) _ _ (acked_as (record new { core = Some (setup.work.opening lead.epoch (led_history new)) }) refl sends none)
+      (by_if (marks_are_acknowledged new) _ _ (acked_as (record new { core = Some (setup.work.opening lead.epoch (acknowledged_history new)) }) refl sends none)
       (acked_as new refl sends none))
 
   ack_counts : acked_world ≡ streams_after_doing w a (counts_ack setup a x lead s from len)
   ack_counts =
-      by_if (nat_lt (led_len (leading lead s)) (led_len (leading (after_ack lead s from len) s))) _ _ ack_advances
+      by_if (nat_lt (len_acknowledged (leading lead s)) (len_acknowledged (leading (after_ack lead s from len) s))) _ _ ack_advances
       (acked_as (after_ack lead s from len) refl [] refl)
 
 ack_leads : (setup : Setup) (w : StreamWorld) (a : ℕ) (x : NodeState) (lead : Lead) → IsInStreams w a (record x { part = Leads lead })
@@ -229,12 +229,12 @@ to_all_same (suc n) a m f is = sym (
 
 -- the log with which a leader begins is the log that it is made with
 first_at : (e nodes quorum : ℕ) (logs : List Log) (i : ℕ)
-    → first_log (slice_index_or (map (new_leading e nodes quorum) logs) i world.no_stream) ≡ slice_index_or logs i []
+    → initial_log_of (slice_index_or (map (new_leading e nodes quorum) logs) i world.no_stream) ≡ slice_index_or logs i []
 first_at e nodes quorum [] i = refl
 first_at e nodes quorum (log ∷ logs) zero = take-length log
 first_at e nodes quorum (log ∷ logs) (suc i) = first_at e nodes quorum logs i
 
-first_logs : (e nodes quorum : ℕ) (logs : List Log) → map first_log (map (new_leading e nodes quorum) logs) ≡ logs
+first_logs : (e nodes quorum : ℕ) (logs : List Log) → map initial_log_of (map (new_leading e nodes quorum) logs) ≡ logs
 first_logs e nodes quorum [] = refl
 first_logs e nodes quorum (log ∷ logs) = λ i. take-length log i ∷ first_logs e nodes quorum logs i
 
@@ -249,7 +249,7 @@ module _ (setup : Setup) (a : ℕ) (c : Candidate) where
       → world.to_all setup.nodes a (world.Sync c.epoch (suc k) (slice_index_or first k [])) ≡ envelopes_of (syncs_of (suc k))
   sync_same k =
       ap (λ log. world.to_all setup.nodes a (world.Sync c.epoch (suc k) log))
-      (sym (ap (λ i. first_log (slice_index_or (map (new_leading c.epoch setup.nodes setup.second_quorum) first) i world.no_stream)) one_less
+      (sym (ap (λ i. initial_log_of (slice_index_or (map (new_leading c.epoch setup.nodes setup.second_quorum) first) i world.no_stream)) one_less
       ∙ first_at c.epoch setup.nodes setup.second_quorum first k))
       ∙ to_all_same setup.nodes a _ (sync_to a (new_lead setup c) (suc k)) (λ to. refl)
     where

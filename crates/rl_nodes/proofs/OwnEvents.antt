@@ -33,7 +33,7 @@ use Rattle.rl_nodes.specs.Answers.{Did, Answer, quiet, sending, to_each}
 use Rattle.rl_nodes.specs.Elections.{sends_again, asks_again, resends, resends_to, accepts_from, knowns, ticks, stands, elects, crashed, returned, lost}
 use Rattle.rl_nodes.specs.Events.{is_down, does_where}
 use Rattle.rl_nodes.specs.Laws.{Placed}
-use Rattle.rl_nodes.specs.Nodes.{Lead, NodeState, Part, Follows, Stands, Leads, leading, led_len, with_leading, first_log, with_pending, pending_of}
+use Rattle.rl_nodes.specs.Nodes.{Lead, NodeState, Part, Follows, Stands, Leads, leading, len_acknowledged, with_leading, initial_log_of, with_pending, pending_of}
 use Rattle.rl_nodes.specs.Setups.{Setup, cluster_of, node_numbers, stream_numbers}
 use Rattle.rl_nodes.specs.Streams.{envelope_of, envelopes_of, stream_role, stream_node, HasTerm, HasBegun}
 use Rattle.rl_nodes.specs.Views.{plays}
@@ -48,7 +48,7 @@ use Rattle.rl_msg.specs.Parts.{head_of}
 use Rattle.rl_nodes.proofs.Tied.{Owns, owns, TiedRun, goes_on, stands_still, in_streams}
 
 -- the initial logs of a leader's term
-first_of : (xs : List Leading) (i : ℕ) → slice_index_or (map first_log xs) i [] ≡ first_log (slice_index_or xs i world.no_stream)
+first_of : (xs : List Leading) (i : ℕ) → slice_index_or (map initial_log_of xs) i [] ≡ initial_log_of (slice_index_or xs i world.no_stream)
 first_of [] i = refl
 first_of (x ∷ xs) zero = refl
 first_of (x ∷ xs) (suc i) = first_of xs i
@@ -164,7 +164,7 @@ module _ (setup : Setup) (w : World) (r : TiedRun setup w) (a : ℕ) (there : is
     leads_on core pending = stands_still setup w r a 0 there (quiet (record here { part = Leads (record lead { core = core; pending = pending }) }))
         (ap (λ part. stream_node (record here { part = part })) (sym is)) term_is (λ n i. absurd i) (reach_none setup.nodes)
 
-    leading_ok : (s : ℕ) → is_node setup.workers s ≡ true → LeadingOk (cluster_of setup) sw lead.epoch s (slice_index_or (map first_log lead.streams) (s - 1) []) (leading lead s)
+    leading_ok : (s : ℕ) → is_node setup.workers s ≡ true → LeadingOk (cluster_of setup) sw lead.epoch s (slice_index_or (map initial_log_of lead.streams) (s - 1) []) (leading lead s)
     leading_ok s in_stream = leading_of (cluster_of setup) r.events lead.epoch (term_of lead) term_is s in_stream
 
     begun : (s : ℕ) → is_node setup.workers s ≡ true → HasBegun lead s
@@ -273,7 +273,7 @@ module _ (setup : Setup) (w : World) (r : TiedRun setup w) (a : ℕ) (there : is
     sync_again s to in_stream in_nodes =
         was_sent (sync_to a lead s to) _ refl
         (subst (λ log. In (record { from = a; to = to; message = world.Sync lead.epoch s log }) sw.sent) (first_of lead.streams (s - 1))
-        (subst (λ b. In (record { from = b; to = to; message = world.Sync lead.epoch s (slice_index_or (map first_log lead.streams) (s - 1) []) }) sw.sent) own_epoch
+        (subst (λ b. In (record { from = b; to = to; message = world.Sync lead.epoch s (slice_index_or (map initial_log_of lead.streams) (s - 1) []) }) sw.sent) own_epoch
         ((leading_ok lead is s in_stream).sync_sent to in_nodes)))
         in_nodes
 
@@ -316,7 +316,7 @@ module _ (setup : Setup) (w : World) (r : TiedRun setup w) (a : ℕ) (there : is
           )
       | inr j ↦ (
           let s = flat_in (knowns setup a lead) (stream_numbers setup) m j in
-          known_again s.0 m (led_len (leading lead s.0) == 0) s.2
+          known_again s.0 m (len_acknowledged (leading lead s.0) == 0) s.2
           )
     ]
 

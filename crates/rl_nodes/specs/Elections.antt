@@ -12,7 +12,7 @@ use Rattle.rl_msg.specs.declared.msg.Msg.TheVariants.{Prepare, Accept}
 use Rattle.rl_nodes.specs.declared.node_error.NodeError.TheVariants.{NoEpoch}
 use Rattle.rl_nodes.specs.Answers.{Did, Answer, sending, to_each}
 use Rattle.rl_nodes.specs.Handles.{sync_to, known_to}
-use Rattle.rl_nodes.specs.Nodes.{Lead, NodeState, Part, Follows, Stands, Leads, nothing_known, opening_replica, leading, led_len}
+use Rattle.rl_nodes.specs.Nodes.{Lead, NodeState, Part, Follows, Stands, Leads, nothing_known, opening_replica, leading, len_acknowledged}
 use Rattle.rl_nodes.specs.Setups.{Setup, node_numbers, stream_numbers, cluster_of}
 
 -- ---- elections ----
@@ -45,7 +45,7 @@ resends_to a lead s to =
 
 -- how much of stream s a second quorum has acked, for each node, where it has acked some
 abbrev pub knowns : Setup → (a : ℕ) → Lead → (s : ℕ) → List Msg
-knowns setup a lead s = if led_len (leading lead s) == 0 then [] else to_each setup (known_to a lead s)
+knowns setup a lead s = if len_acknowledged (leading lead s) == 0 then [] else to_each setup (known_to a lead s)
 
 -- a leader sends each stream again to each node, and then how much of each stream is chosen
 abbrev pub resends : Setup → (a : ℕ) → Lead → List Msg

@@ -15,7 +15,7 @@ use Rattle.rl_msg.specs.Reading.{read_msg}
 use Rattle.rl_nodes.specs.declared.node_error.NodeError.TheVariants.{BadMessage, StreamFull}
 use Rattle.rl_nodes.specs.Answers.{Did, Answer, sending, quiet, unless_denied, to_each}
 use Rattle.rl_nodes.specs.BadMessages.{is_bad}
-use Rattle.rl_nodes.specs.Nodes.{Lead, NodeState, Part, Stands, Leads, known_len, leading, with_leading, first_log, led_len, led_history, has_opened, marks_are_led}
+use Rattle.rl_nodes.specs.Nodes.{Lead, NodeState, Part, Stands, Leads, known_len, leading, with_leading, initial_log_of, len_acknowledged, acknowledged_history, has_opened, marks_are_acknowledged}
 use Rattle.rl_nodes.specs.Setups.{Setup, stream_numbers, cluster_of}
 
 -- ---- at an acceptor ----
@@ -42,7 +42,7 @@ knows x e s len =
 
 -- a Sync of the log with which a leader began on stream s
 abbrev pub sync_to : (a : ℕ) → Lead → (s to : ℕ) → Msg
-sync_to a lead s to = msg.Sync a to lead.epoch s (first_log (leading lead s))
+sync_to a lead s to = msg.Sync a to lead.epoch s (initial_log_of (leading lead s))
 
 -- a candidate as the leader of its epoch: each stream begins with the recovered log and the open mark
 abbrev pub new_lead : Setup → Candidate → Lead
@@ -80,12 +80,12 @@ takes_promise setup a x e p other = Ok (quiet x)
 
 -- a Known of how much of stream s a second quorum has acked
 abbrev pub known_to : (a : ℕ) → Lead → (s to : ℕ) → Msg
-known_to a lead s to = msg.Known a to lead.epoch s (led_len (leading lead s))
+known_to a lead s to = msg.Known a to lead.epoch s (len_acknowledged (leading lead s))
 
 -- a leader opens with the history of what a second quorum has acked, and releases it
 abbrev pub opens : Setup → NodeState → Lead → List Msg → Did
 opens setup x lead sends =
-    let items = led_history lead in
+    let items = acknowledged_history lead in
     let core = setup.work.opening lead.epoch items in
     record (sending (record x { part = Leads (record lead { core = Some core }) }) sends) {
       opened = Some (record { epoch = lead.epoch; items = items });
@@ -95,7 +95,7 @@ opens setup x lead sends =
 -- an open leader releases what its history has gained since a history before
 abbrev pub releases : NodeState → (before : List Item) → Lead → List Msg → Did
 releases x before lead sends =
-    let items = led_history lead in
+    let items = acknowledged_history lead in
     record (sending (record x { part = Leads lead }) sends) {
       release = Some (record { epoch = lead.epoch; history = items; gained = drop (length before) items });
     }
@@ -104,15 +104,15 @@ releases x before lead sends =
 abbrev pub advances : Setup → (a : ℕ) → NodeState → (old new : Lead) → (s : ℕ) → Did
 advances setup a x old new s =
     let sends = to_each setup (known_to a new s) in
-    if has_opened new then releases x (led_history old) new sends
-    else if marks_are_led new then opens setup x new sends
+    if has_opened new then releases x (acknowledged_history old) new sends
+    else if marks_are_acknowledged new then opens setup x new sends
     else sending (record x { part = Leads new }) sends
 
 -- an Ack of stream s counts
 abbrev pub counts_ack : Setup → (a : ℕ) → NodeState → Lead → (s from len : ℕ) → Did
 counts_ack setup a x lead s from len =
     let new = with_leading lead s (with_ack (leading lead s) from len) in
-    if nat_lt (led_len (leading lead s)) (led_len (leading new s)) then advances setup a x lead new s
+    if nat_lt (len_acknowledged (leading lead s)) (len_acknowledged (leading new s)) then advances setup a x lead new s
     else quiet (record x { part = Leads new })
 
 -- an Ack counts for the leader of its epoch, and is skipped by any other node

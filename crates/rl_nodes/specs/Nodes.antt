@@ -88,32 +88,32 @@ abbrev pub with_leading : Lead → (s : ℕ) → Leading → Lead
 with_leading lead s stream = record lead { streams = slice_set lead.streams (s - 1) stream }
 
 -- the log with which a leader began on a stream
-abbrev pub first_log : Leading → bytes.Log
-first_log stream = take stream.initial_len stream.log
+abbrev pub initial_log_of : Leading → bytes.Log
+initial_log_of stream = take stream.initial_len stream.log
 
 -- how many batches of a stream a second quorum has acked
-abbrev pub led_len : Leading → ℕ
-led_len stream = acknowledged_len stream.quorum stream.acked
+abbrev pub len_acknowledged : Leading → ℕ
+len_acknowledged stream = acknowledged_len stream.quorum stream.acked
 
 -- the batches of a stream that a second quorum has acked
-abbrev pub led_log : Leading → bytes.Log
-led_log stream = take (led_len stream) stream.log
+abbrev pub acknowledged_log : Leading → bytes.Log
+acknowledged_log stream = take (len_acknowledged stream) stream.log
 
 -- the same of all streams
-abbrev pub led_family : Lead → List (List Batch)
-led_family lead = map (λ stream. batches_of (led_log stream)) lead.streams
+abbrev pub acknowledged_family : Lead → List (List Batch)
+acknowledged_family lead = map (λ stream. batches_of (acknowledged_log stream)) lead.streams
 
 -- and their history, from which a leader releases
-abbrev pub led_history : Lead → List Item
-led_history lead = history (led_family lead)
+abbrev pub acknowledged_history : Lead → List Item
+acknowledged_history lead = history (acknowledged_family lead)
 
 -- whether a leader has opened
 abbrev pub has_opened : Lead → Bool
 has_opened lead = is_some lead.core
 
 -- whether a second quorum has acked the open mark of every stream
-abbrev pub marks_are_led : Lead → Bool
-marks_are_led lead = list_all (λ stream. nat_le stream.initial_len (led_len stream)) lead.streams
+abbrev pub marks_are_acknowledged : Lead → Bool
+marks_are_acknowledged lead = list_all (λ stream. nat_le stream.initial_len (len_acknowledged stream)) lead.streams
 
 -- the pending items of worker w
 abbrev pub pending_of : Lead → (w : ℕ) → List Item

@@ -5,6 +5,7 @@ use Rattle.rl_base.specs.declared.limit.TheConstants.{NODES, WORKERS}
 use Rattle.rl_value.specs.Fits.{RowsFit}
 use Rattle.rl_value.specs.Tables.{IsSchema}
 use Rattle.rl_txn.specs.Fits.{ListsFit}
+use Rattle.rl_txn.specs.Words.{RowsHaveWords}
 use Rattle.rl_batch.specs.Encoding.{batch_bytes}
 use Rattle.rl_batch.specs.declared.item.TheConstants.{BATCH_ITEMS}
 use Rattle.rl_families.specs.Leaders.{open_mark}
@@ -71,6 +72,7 @@ pub record SetupFits (setup : Setup) : Type 0 where
   pub intersect : setup.nodes < setup.first_quorum + setup.second_quorum
   pub schema : IsSchema setup.program.tables
   pub rows_fit : RowsFit setup.program.tables setup.program.rows
+  pub words : RowsHaveWords setup.program.rows
   pub lists_fit : ListsFit setup.program.tables setup.program.lists
   pub one_list_each : length setup.program.lists ≡ setup.workers
   pub work_is : setup.work ≡ work_of setup.program

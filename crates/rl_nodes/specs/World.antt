@@ -18,7 +18,7 @@ use Rattle.rl_worker.specs.Told.{refused}
 use Rattle.rl_nodes.specs.declared.node_error.NodeError.TheVariants.{StreamFull}
 use Rattle.rl_nodes.specs.declared.view.NodeView.{NodeView}
 use Rattle.rl_nodes.specs.Answers.{Opening, Release, Did, Answer}
-use Rattle.rl_nodes.specs.Nodes.{Lead, NodeState, Part, Leads, new_node, first_log}
+use Rattle.rl_nodes.specs.Nodes.{Lead, NodeState, Part, Leads, new_node, initial_log_of}
 use Rattle.rl_nodes.specs.Setups.{Setup}
 use Rattle.rl_nodes.specs.Views.{view_of, rows_in}
 
@@ -180,7 +180,7 @@ lines_of a number did =
 
 -- the streams of a leader, and the logs with which they began
 abbrev pub term_of : Lead → Term
-term_of lead = record { initial = map first_log lead.streams; streams = lead.streams }
+term_of lead = record { initial = map initial_log_of lead.streams; streams = lead.streams }
 
 -- the terms where a node has a part: those of a leader are what it has
 abbrev pub terms_after : (ℕ → Option Term) → Part → ℕ → Option Term
