@@ -55,7 +55,7 @@ impl Command for StepsCommand {
 }
 
 /// Makes the steps of a script, and answers the report.
-pub fn steps_run(alloc: Global, script: Script) -> Result<String, Memory>
+fn steps_run(alloc: Global, script: Script) -> Result<String, Memory>
     requires { ScriptFits script }
     ensures { IfOk result (λ text. IsStepsReport script (string_bytes text)) }
 {

@@ -1,4 +1,4 @@
--- Which messages no node of the run could have sent to a node: it refuses them, and is unchanged.
+-- Which messages a node refuses as bad: each has something that no message has that a node of a run sends to it.
 use Rattle.std.specs.Prelude.{ℕ, suc, Bool, true, false, not, ◌&&◌, ◌||◌, ◌==◌, nat_lt, nat_le, is_some, List, [], ◌∷◌, length, Option, Some, None}
 use Rattle.std.specs.List.{list_any, list_all}
 use Rattle.std.specs.Option.{option_map_or}

@@ -48,8 +48,8 @@ pub record IsDone (old new : Standing) (answer : Answer) (did : Did) : Type 0 wh
 abbrev pub KeepsAcceptor : (old new : NodeState) → Answer → Type 0
 KeepsAcceptor old new answer = (new.acceptor ≡ old.acceptor) ⊎ IsOkAnd answer (λ did. new.acceptor ≡ did.node.acceptor)
 
--- a call has refused that could be made: a bad message and the want of an epoch leave the node unchanged; a full stream, where that was
--- due, and want of memory, which may come at any call, leave it with that answer
+-- a call has refused that could be made: a bad message and the want of an epoch leave the node unchanged; after a full stream, where that
+-- was due, and where memory ran out, which may be at any call, it repeats that answer, and its acceptor is that before or after the call
 abbrev pub HasRefused : (old new : Standing) → Answer → NodeError → Type 0
 HasRefused old new answer BadMessage = (answer ≡ Err BadMessage) × (new ≡ old)
 HasRefused old new answer (NoEpoch promised) = (answer ≡ Err (NoEpoch promised)) × (new ≡ old)

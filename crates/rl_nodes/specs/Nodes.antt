@@ -91,7 +91,7 @@ with_leading lead s stream = record lead { streams = slice_set lead.streams (s -
 abbrev pub initial_log_of : Leading → bytes.Log
 initial_log_of stream = take stream.initial_len stream.log
 
--- how many batches of a stream a second quorum has acked
+-- how many batches of a stream a second quorum has acked, as far as the leader has received
 abbrev pub len_acknowledged : Leading → ℕ
 len_acknowledged stream = acknowledged_len stream.quorum stream.acked
 

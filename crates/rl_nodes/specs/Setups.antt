@@ -13,7 +13,7 @@ use Rattle.rl_election.specs.World.{Cluster}
 use Rattle.rl_nodes.specs.Openings.{Program, Work, work_of}
 
 -- the nodes, the workers, how many items make a batch, the sizes of a first and a second quorum, the tables and requests, and
--- what the workers of a leader do, which the tables and requests decide
+-- what the workers of a leader do; in a setup that fits, the tables and requests decide that
 pub record Setup : Type 0 where
   pub nodes : ℕ
   pub workers : ℕ

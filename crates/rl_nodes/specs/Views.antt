@@ -51,7 +51,7 @@ has_stamp items s = list_any (λ x. (x.stamp.epoch == s.epoch) && (x.stamp.seq =
 abbrev pub have_same_stamps : (xs ys : List Item) → Bool
 have_same_stamps xs ys = list_all (λ y. has_stamp xs y.stamp) ys && list_all (λ x. has_stamp ys x.stamp) xs
 
--- the replica has applied exactly the history of what its node knows
+-- the replica has applied the items of the history of what its node knows, and no others, as their stamps tell
 abbrev pub is_at_watermark : Setup → NodeState → Bool
 is_at_watermark setup x = have_same_stamps x.replica.applied (known_history setup x)
 

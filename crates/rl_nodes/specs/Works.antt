@@ -69,7 +69,7 @@ steps_core setup a x lead w core =
 
 -- ---- an idle mark ----
 
--- worker w of the leader may propose an idle mark: it rests, and nothing of its epoch is pending or behind an end mark
+-- worker w of the leader may propose an idle mark: it rests, none of its items is pending, and its stream has no end mark yet
 abbrev pub may_idle : Lead → (w : ℕ) → Core → Bool
 may_idle lead w core =
     resting (phase_of core w) && (length (pending_of lead w) == 0) && not (has_end_mark lead w)

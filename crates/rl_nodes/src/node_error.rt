@@ -6,7 +6,8 @@ use rl_base::memory::Memory;
 /// answers the same to each later call until it crashes.
 #[derive(Clone, Copy, Debug, PartialEq, Eq)]
 pub enum NodeError {
-    /// The bytes are no message that a node of the run could have sent to this one.
+    /// The bytes are no message, or the message has something that none has that a node of a run sends to
+    /// this one.
     BadMessage,
     /// A stream has no free slot for the batch that is due.
     StreamFull { slots: u32 },

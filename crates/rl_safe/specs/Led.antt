@@ -24,7 +24,7 @@ pub record IsLed (setup : Setup) (w : World) : Type 0 where
   pub initials : ForLogs setup (IsInitialLog (stream_world setup w)) (λ epoch s log. batches_of log ≡ initial_log leaders epoch s)
   -- each element of such a log encodes a batch
   pub encoded : ForLogs setup (IsLeaderLog (stream_world setup w)) (λ epoch s log. IsTrue (are_batches log))
-  -- each opening list is the history of the epoch's initial logs, each of which is there
+  -- each opening list is the history of its epoch's initial logs
   pub openings : (o : Opened) → Contains w.openings o → o.items ≡ opening_list leaders setup.workers o.epoch
   -- an attempt was refused only for a true cause
   pub refusals : (f : Attempt) → Contains w.refusals f → IsTrueCause f.refusal.worker f.refusal.cause

@@ -8,7 +8,7 @@ pub fn runs_are_led()
     ensures { RunsAreLed }
 {}
 
-/// So every run is safe.
+/// Where they are, every run is safe.
 pub fn led_runs_are_safe()
     ensures { LedRunsAreSafe }
 {}
