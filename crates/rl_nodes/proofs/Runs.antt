@@ -38,7 +38,7 @@ same_in (suc n) x (suc i) = same_in n x i
 new_nodes : (setup : Setup) (a : ℕ) → node_of setup (new_world setup) a ≡ new_node setup
 new_nodes setup a = same_in setup.nodes (new_node setup) (a - 1)
 
-begins : (setup : Setup) → TiedRun setup (new_world setup)
+pub begins : (setup : Setup) → TiedRun setup (new_world setup)
 begins setup = record {
   events = [];
   tied = record {
@@ -70,7 +70,7 @@ in_replicate (suc n) s k i = elim i [ inl e ↦ e | inr j ↦ in_replicate n s k
 
 -- ---- events ----
 
-true_node : (n k : ℕ) → IsOneOf n k → is_node n k ≡ true
+pub true_node : (n k : ℕ) → IsOneOf n k → is_node n k ≡ true
 true_node n k h = both_true (nat_le 1 k) (nat_le k n) (le_true 1 k h.0) (le_true k n h.1)
   where
     le_true : (a b : ℕ) → a ≤ b → nat_le a b ≡ true
