@@ -309,7 +309,7 @@ module _ (setup : Setup) (w : World) (r : TiedRun setup w) (number : ℕ) (m : M
       }))
       (subst (Reaches setup.nodes) takes_is (reach_takes setup at here m (from_there setup at here m ok)))
 
-  by_envelope : (o : Option Envelope) → envelope_of m ≡ o → is_up here.state ≡ true → (did : Did) → receives setup at here m ≡ Ok did
+  pub by_envelope : (o : Option Envelope) → envelope_of m ≡ o → is_up here.state ≡ true → (did : Did) → receives setup at here m ≡ Ok did
       → TiedRun setup (after_doing w at number did)
   by_envelope None is up did receives_is =
       of_known setup w r at number there m is did (taken_of (is_bad setup at here m) (takes setup at here m) did receives_is).1
