@@ -1,5 +1,5 @@
 -- Where each run is one of leaders as the laws of families ask, every run is safe.
-use Rattle.std.proofs.Common.{◌≡◌, ℕ, ◌-◌, ◌<◌, List, [], length, Bool, true, false, Some, Ok, All, Contains, IsTrue, refl, ap, sym, ◌∙◌, subst, inl, inr, true≢false, le-leb}
+use Rattle.std.proofs.Common.{◌≡◌, ℕ, ◌-◌, ◌<◌, List, [], length, map, Bool, true, false, Some, Ok, All, Contains, IsTrue, refl, ap, sym, ◌∙◌, subst, inl, inr, true≢false, le-leb}
 use Rattle.rl_base.specs.Lists.{IsPrefix}
 use Rattle.rl_base.proofs.Members.{in_contains, contains_in, all_in}
 use Rattle.rl_base.proofs.OrderLemmas.{same_stamp}
@@ -23,7 +23,6 @@ use Rattle.rl_families.specs.Logs.{IsRising}
 use Rattle.rl_families.specs.Streams.{IsStamped}
 use Rattle.rl_families.proofs.Leading.{leaders_logs_rise}
 use Rattle.rl_families.proofs.Nesting.{history_nests}
-use Rattle.rl_families.proofs.Rising.{Rises, rises_from}
 use Rattle.rl_families.proofs.SerialHistories.{histories_are_serial}
 use Rattle.rl_replay.specs.OverFamily.{IsReplicaOf}
 use Rattle.rl_replay.specs.Replay.{HasStamp, HaveSameStamps, IsSameSet}
@@ -46,9 +45,9 @@ use Rattle.rl_safe.proofs.KnownLists.{numbers_in, logs_are, map_same, map_inside
 use Rattle.rl_safe.proofs.KnownGrowth.{ChosenAt, ChosenPart, LeaderPart, leader_part, begins_choice, len_stays}
 use Rattle.rl_safe.proofs.KnownNodes.{family_of, AreStamped, NodeOk}
 use Rattle.rl_safe.proofs.KnownWorlds.{IsGiven, AllKnown, all_known}
-use Rattle.rl_safe.proofs.ReleasedLists.{stamps_of}
 
-module _ (setup : Setup) (sized : SetupFits setup) (events : List Event) (fits : All (EventFits setup.nodes setup.workers) events) (w : World) (is : world_after setup events ≡ Ok w)
+module _ (setup : Setup) (sized : SetupFits setup) (events : List Event) (fits : All (EventFits setup.nodes setup.workers) events)
+    (w : World) (is : world_after setup events ≡ Ok w)
     (led : IsLed setup w) (tied : TiedRun setup w) (known : AllKnown setup w) where
   abbrev v : StreamWorld
   v = stream_world setup w
@@ -102,7 +101,8 @@ module _ (setup : Setup) (sized : SetupFits setup) (events : List Event) (fits :
   ]
 
   -- their batches are prefixes of what leaders proposed
-  are_prefixes : (f : ℕ → bytes.Log) → ((s : ℕ) → There s → LeaderPart v s (f s)) → ArePrefixesOfLeaders led.leaders setup.workers (λ s. batches_of (f s))
+  are_prefixes : (f : ℕ → bytes.Log) → ((s : ℕ) → There s → LeaderPart v s (f s))
+      → ArePrefixesOfLeaders led.leaders setup.workers (λ s. batches_of (f s))
   are_prefixes f parts s low high =
       let there : There s = both_true _ _ (le-leb 1 s low) (le-leb s setup.workers high) in
       elim (parts s there) [
@@ -115,7 +115,8 @@ module _ (setup : Setup) (sized : SetupFits setup) (events : List Event) (fits :
         )
       ]
 
-  logs_rise : (f : ℕ → bytes.Log) → ((s : ℕ) → There s → LeaderPart v s (f s)) → LogsOfLeaders led.leaders setup.workers (λ s. batches_of (f s))
+  logs_rise : (f : ℕ → bytes.Log) → ((s : ℕ) → There s → LeaderPart v s (f s))
+      → LogsOfLeaders led.leaders setup.workers (λ s. batches_of (f s))
   logs_rise f parts = leaders_logs_rise led.leaders setup.workers led.are_leaders (λ s. batches_of (f s)) (are_prefixes f parts)
 
   same_family : (f : ℕ → bytes.Log) → logs_of_streams setup.workers (λ s. batches_of (f s)) ≡ family_of setup f
@@ -129,7 +130,8 @@ module _ (setup : Setup) (sized : SetupFits setup) (events : List Event) (fits :
       → IsPrefix (history (family_of setup f)) (history (family_of setup h))
   nests f h begin parts =
       history_nests (family_of setup f) (family_of setup h)
-      (map_inside (λ s. batches_of (f s)) (λ s. batches_of (h s)) (stream_numbers setup) (λ s i. batches_begin (f s) (h s) (begin s (in_numbers setup.workers s i))))
+      (map_inside (λ s. batches_of (f s)) (λ s. batches_of (h s)) (stream_numbers setup)
+      (λ s i. batches_begin (f s) (h s) (begin s (in_numbers setup.workers s i))))
       (stamped h parts).rising
 
   -- ---- the history ----
@@ -138,15 +140,18 @@ module _ (setup : Setup) (sized : SetupFits setup) (events : List Event) (fits :
   whole = history_of setup chosen
 
   serial : IsSerialHistory setup.program.tables setup.program.lists setup.program.rows whole
-  serial = subst (λ family. IsSerialHistory setup.program.tables setup.program.lists setup.program.rows (history family)) (same_family chosen)
+  serial =
+      subst (λ family. IsSerialHistory setup.program.tables setup.program.lists setup.program.rows (history family)) (same_family chosen)
       (histories_are_serial setup.program.tables setup.program.lists setup.program.rows led.leaders setup.workers led.are_leaders
       (λ s. batches_of (chosen s)) (are_prefixes chosen chosen_parts) led.serial)
 
-  rising : Rises (stamps_of whole)
-  rising = rises_from (stamps_of whole) (subst (λ family. IsRising (stamps_of (history family))) (same_family chosen) (logs_rise chosen chosen_parts).rising)
+  rising : IsRising (map (λ x. x.stamp) whole)
+  rising = subst (λ family. IsRising (map (λ x. x.stamp) (history family))) (same_family chosen) (logs_rise chosen chosen_parts).rising
 
   given_in : (given : Given) → IsGiven setup v given → IsPrefix given.history whole
-  given_in given k = subst (λ items. IsPrefix items whole) (sym k.is) (nests k.log chosen (λ s there. chosen_in given.epoch s (k.log s) there (k.each s there)) chosen_parts)
+  given_in given k =
+      subst (λ items. IsPrefix items whole) (sym k.is)
+      (nests k.log chosen (λ s there. chosen_in given.epoch s (k.log s) there (k.each s there)) chosen_parts)
 
   released : IsPrefix w.released whole
   released = known.released whole rising (λ given i. given_in given (known.given given i))
@@ -172,11 +177,16 @@ module _ (setup : Setup) (sized : SetupFits setup) (events : List Event) (fits :
     -- at the watermark it has applied the whole history
     same_items : IsTrue (is_at_watermark setup x) → IsSameSet (known_history setup x) x.replica.applied
     same_items at =
-        let same : HaveSameStamps x.replica.applied (known_history setup x) = (tests_tell.same x.replica.applied (known_history setup x)).0 at in (
+        let same : HaveSameStamps x.replica.applied (known_history setup x) =
+        (tests_tell.same x.replica.applied (known_history setup x)).0 at in (
           λ item c.
-              let has : HasStamp x.replica.applied item.stamp = all_in (λ (y : Item). HasStamp x.replica.applied y.stamp) (known_history setup x) same.0 item (contains_in (known_history setup x) item c) in
+              let has : HasStamp x.replica.applied item.stamp =
+              all_in (λ (y : Item). HasStamp x.replica.applied y.stamp) (known_history setup x) same.0 item
+              (contains_in (known_history setup x) item c) in
               let there : Contains x.replica.applied has.1 = (has.0, has.2, has.3) in
-              let one : has.1 ≡ item = applied_identified setup.program.rows (known_family setup x) x.replica one_family replica has.1 item there c (same_stamp has.1.stamp item.stamp has.4.0 has.4.1) in
+              let one : has.1 ≡ item =
+              applied_identified setup.program.rows (known_family setup x) x.replica one_family replica has.1 item there c
+              (same_stamp has.1.stamp item.stamp has.4.0 has.4.1) in
               subst (Contains x.replica.applied) one there,
           replica.counted,
         )
@@ -191,7 +201,8 @@ module _ (setup : Setup) (sized : SetupFits setup) (events : List Event) (fits :
   -- ---- opening lists ----
 
   -- what was chosen earlier begins the initial logs of a later epoch
-  begins_initial : (e s : ℕ) (log : bytes.Log) → There s → ChosenAt (cluster_of setup) v e s log → (later : ℕ) → e < later → (t : Term) → v.terms later ≡ Some t → IsPrefix log (initial_at t (s - 1))
+  begins_initial : (e s : ℕ) (log : bytes.Log) → There s → ChosenAt (cluster_of setup) v e s log → (later : ℕ) → e < later → (t : Term)
+      → v.terms later ≡ Some t → IsPrefix log (initial_at t (s - 1))
   begins_initial e s log there k later less t term =
       let at : ChosenAt (cluster_of setup) (streams_after (cluster_of setup) tied.events) e s log = record {
         term = k.term;
@@ -201,7 +212,8 @@ module _ (setup : Setup) (sized : SetupFits setup) (events : List Event) (fits :
       } in
       let c = begins_choice (cluster_of setup) (streams_after (cluster_of setup) tied.events) e s log at in
       prefix_trans log c.0 (initial_at t (s - 1)) c.2
-      (chosen_begins (cluster_of setup) sized.intersect (streams_after (cluster_of setup) tied.events) (inv_of (cluster_of setup) tied.events) e s later c.0 there c.1 less t (ap (λ f. f later) tied.tied.terms ∙ term))
+      (chosen_begins (cluster_of setup) sized.intersect (streams_after (cluster_of setup) tied.events)
+      (inv_of (cluster_of setup) tied.events) e s later c.0 there c.1 less t (ap (λ f. f later) tied.tied.terms ∙ term))
 
   module _ (o : Opened) (there : Contains w.openings o) where
     abbrev as_given : Given
@@ -222,13 +234,16 @@ module _ (setup : Setup) (sized : SetupFits setup) (events : List Event) (fits :
           epoch = o.epoch;
           term = first.term;
           term_is = first.term_is;
-          within = ((inv_of (cluster_of setup) tied.events).term_ok o.epoch first.term (ap (λ f. f o.epoch) tied.tied.terms ∙ first.term_is)).begins (s - 1);
+          within =
+              ((inv_of (cluster_of setup) tied.events).term_ok o.epoch first.term
+              (ap (λ f. f o.epoch) tied.tied.terms ∙ first.term_is)).begins (s - 1);
         })
 
     items_are : history (family_of setup initial) ≡ o.items
     items_are =
         ap history (map_same (λ s. batches_of (initial s)) (λ s. initial_log led.leaders o.epoch s) (stream_numbers setup)
-        (λ s i. led.initials o.epoch s (in_contains (stream_numbers setup) s i) (initial s) (record { term = first.term; term_is = first.term_is; initial_is = refl }))
+        (λ s i. led.initials o.epoch s (in_contains (stream_numbers setup) s i) (initial s)
+        (record { term = first.term; term_is = first.term_is; initial_is = refl }))
         ∙ logs_are setup.workers (initial_log led.leaders o.epoch))
         ∙ sym (led.openings o there)
 
@@ -239,7 +254,8 @@ module _ (setup : Setup) (sized : SetupFits setup) (events : List Event) (fits :
           let k : IsGiven setup v given = known.given given (contains_in w.gave given c) in
           subst (λ items. IsPrefix items o.items) (sym k.is)
           (subst (IsPrefix (history (family_of setup k.log))) items_are
-          (nests k.log initial (λ s in_stream. begins_initial given.epoch s (k.log s) in_stream (k.each s in_stream) o.epoch less first.term first.term_is) initial_parts));
+          (nests k.log initial (λ s in_stream. begins_initial given.epoch s (k.log s) in_stream
+          (k.each s in_stream) o.epoch less first.term first.term_is) initial_parts));
     }
 
   -- ---- all of it ----

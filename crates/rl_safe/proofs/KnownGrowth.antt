@@ -50,10 +50,12 @@ abbrev pub LeaderPart : StreamWorld → (s : ℕ) → bytes.Log → Type 0
 LeaderPart v s log = (log ≡ []) ⊎ BeginsLeader v s log
 
 pub leader_part : (g : Cluster) (v : StreamWorld) (s : ℕ) (log : bytes.Log) → ChosenPart g v s log → LeaderPart v s log
-leader_part g v s log k = elim k [ inl e ↦ inl e | inr c ↦ inr (record { epoch = c.0; term = c.1.term; term_is = c.1.term_is; within = c.1.within }) ]
+leader_part g v s log k =
+    elim k [ inl e ↦ inl e | inr c ↦ inr (record { epoch = c.0; term = c.1.term; term_is = c.1.term_is; within = c.1.within }) ]
 
 -- it begins what is chosen at the epoch
-pub begins_choice : (g : Cluster) (v : StreamWorld) (e s : ℕ) (log : bytes.Log) → ChosenAt g v e s log → (chosen : bytes.Log) × IsChosen g v e s chosen × IsPrefix log chosen
+pub begins_choice : (g : Cluster) (v : StreamWorld) (e s : ℕ) (log : bytes.Log) → ChosenAt g v e s log
+    → (chosen : bytes.Log) × IsChosen g v e s chosen × IsPrefix log chosen
 begins_choice g v e s log k =
     let c = some_choice g v e s (stream_of k.term s).log (record { term = k.term; term_is = k.term_is; log_is = refl }) in
     let one : k.term ≡ c.1.is_log.term = some_same k.term c.1.is_log.term (v.terms e) k.term_is c.1.is_log.term_is in
@@ -107,7 +109,14 @@ module _ (g : Cluster) (v after : StreamWorld) (later : Later g v after) where
     | inl e ↦ inl e
     | inr c ↦ (
         let u = later.logs c.epoch c.term c.term_is s there in
-        inr (record { epoch = c.epoch; term = u.0; term_is = u.1; within = prefix_trans log (stream_of c.term s).log (stream_of u.0 s).log c.within u.2 })
+        inr
+        (record {
+          epoch = c.epoch;
+          term = u.0;
+          term_is = u.1;
+          within = prefix_trans log (stream_of c.term s).log
+              (stream_of u.0 s).log c.within u.2;
+        })
         )
   ]
 
@@ -135,15 +144,22 @@ module _ (setup : Setup) (sized : SetupFits setup) (w x : World) (r : TiedRun se
   slot_stays e s there t is u is_now begun begins i low = elim (cases_lt i (length (initial_log t s))) [
     | inl first ↦ (
       within (initial_log t s) (stream_of u s).log i begins first,
-      prefix_get [] (initial_log t s) (stream_of u s).log i begins first ∙ sym (prefix_get [] (initial_log t s) (stream_of t s).log i begun first),
+      prefix_get [] (initial_log t s) (stream_of u s).log i begins first
+          ∙ sym (prefix_get [] (initial_log t s) (stream_of t s).log i begun first),
     )
     | inr behind ↦ (
-        let ok : LeadingOk (cluster_of setup) v e s (initial_log t s) (stream_of t s) = leading_of (cluster_of setup) r.events e t is s there in
+        let ok : LeadingOk (cluster_of setup) v e s (initial_log t s) (stream_of t s) =
+        leading_of (cluster_of setup) r.events e t is s there in
         let sent = ok.accepts_sent i 1 (omega (arith, behind, ok.initial_len)) low (first_node setup.nodes sized.some_nodes) in
-        let m : Envelope = record { from = owner_of e setup.nodes; to = 1; message = world.Accept e s i (get_or (stream_of t s).log i []) } in
-        let accept : AcceptOk after e s i (get_or (stream_of t s).log i []) = (inv_of (cluster_of setup) q.events).message_ok m (sent_on m sent) in
-        let one : accept.term ≡ u = some_same accept.term u (after.terms e) accept.term_is is_now in
-        (subst (λ z. i < length (stream_of z s).log) one accept.there, subst (λ z. get_or (stream_of z s).log i [] ≡ get_or (stream_of t s).log i []) one accept.batch_is))
+        let m : Envelope =
+        record { from = owner_of e setup.nodes; to = 1; message = world.Accept e s i (get_or (stream_of t s).log i []) } in
+        let accept : AcceptOk after e s i (get_or (stream_of t s).log i []) =
+        (inv_of (cluster_of setup) q.events).message_ok m (sent_on m sent) in
+        let one : accept.term ≡ u = some_same accept.term u (after.terms e) accept.term_is is_now in (
+          subst (λ z. i < length (stream_of z s).log) one accept.there,
+          subst
+              (λ z. get_or (stream_of z s).log i [] ≡ get_or (stream_of t s).log i []) one accept.batch_is,
+        ))
   ]
     where
       within : (xs ys : bytes.Log) (i : ℕ) → IsPrefix xs ys → i < length xs → i < length ys
@@ -155,12 +171,17 @@ module _ (setup : Setup) (sized : SetupFits setup) (w x : World) (r : TiedRun se
   logs_stay : (e : ℕ) (t : Term) → v.terms e ≡ Some t → (s : ℕ) → is_stream (cluster_of setup) s ≡ true
       → (u : Term) × (after.terms e ≡ Some u) × IsPrefix (stream_of t s).log (stream_of u s).log
   logs_stay e t is s there =
-      let ok : LeadingOk (cluster_of setup) v e s (initial_log t s) (stream_of t s) = leading_of (cluster_of setup) r.events e t is s there in
+      let ok : LeadingOk (cluster_of setup) v e s (initial_log t s) (stream_of t s) =
+      leading_of (cluster_of setup) r.events e t is s there in
       let sent = ok.sync_sent 1 (le-leb 1 setup.nodes sized.some_nodes) in
       let m : Envelope = record { from = owner_of e setup.nodes; to = 1; message = world.Sync e s (initial_log t s) } in
       let sync : InLeaderLog after e (s - 1) (initial_log t s) = (inv_of (cluster_of setup) q.events).message_ok m (sent_on m sent) in
-      let begun = ((inv_of (cluster_of setup) r.events).term_ok e t is).begins (s - 1) in
-      (sync.term, sync.term_is, prefix_from [] (stream_of t s).log (stream_of sync.term s).log (slot_stays e s there t is sync.term sync.term_is begun sync.within))
+      let begun = ((inv_of (cluster_of setup) r.events).term_ok e t is).begins (s - 1) in (
+        sync.term,
+        sync.term_is,
+        prefix_from [] (stream_of t s).log (stream_of sync.term s).log
+            (slot_stays e s there t is sync.term sync.term_is begun sync.within),
+      )
 
   pub later : Later (cluster_of setup) (stream_world setup w) (stream_world setup x)
   later = record {
@@ -172,13 +193,15 @@ module _ (setup : Setup) (sized : SetupFits setup) (w x : World) (r : TiedRun se
 
 -- ---- what a leader counts as acknowledged ----
 
-module _ (setup : Setup) (sized : SetupFits setup) (w : World) (r : TiedRun setup w) (lead : Lead) (is : w.terms lead.epoch ≡ Some (term_of lead)) where
+module _ (setup : Setup) (sized : SetupFits setup) (w : World) (r : TiedRun setup w) (lead : Lead)
+    (is : w.terms lead.epoch ≡ Some (term_of lead)) where
   -- it has a log of each stream
   pub all_streams : length lead.streams ≡ setup.workers
   all_streams = ((inv_of (cluster_of setup) r.events).term_ok lead.epoch (term_of lead) (ap (λ f. f lead.epoch) r.tied.terms ∙ is)).sized
 
   -- and a second quorum acked what it counts
-  pub counted : (s : ℕ) → is_node setup.workers s ≡ true → is_chosen_len (cluster_of setup) (stream_world setup w) lead.epoch s (len_acknowledged (leading lead s)) ≡ true
+  pub counted : (s : ℕ) → is_node setup.workers s ≡ true
+      → is_chosen_len (cluster_of setup) (stream_world setup w) lead.epoch s (len_acknowledged (leading lead s)) ≡ true
   counted s there =
       let v : StreamWorld = streams_after (cluster_of setup) r.events in
       let ok : LeadingOk (cluster_of setup) v lead.epoch s (initial_log (term_of lead) s) (leading lead s) =
@@ -187,14 +210,18 @@ module _ (setup : Setup) (sized : SetupFits setup) (w : World) (r : TiedRun setu
       let within : (leading lead s).quorum ≤ length (leading lead s).acked = omega (arith, ok.quorum, ok.sized, sized.second_within) in
       let has = (greatest_is_acknowledged (leading lead s).quorum (leading lead s).acked some within).quorum_has in
       len_stays (cluster_of setup) v (stream_world setup w) r.tied.sent lead.epoch s (len_acknowledged (leading lead s))
-      (acknowledged_chosen (cluster_of setup) v lead.epoch s (len_acknowledged (leading lead s)) (initial_log (term_of lead) s) (leading lead s) ok has)
+      (acknowledged_chosen (cluster_of setup) v lead.epoch s (len_acknowledged (leading lead s)) (initial_log (term_of lead) s)
+      (leading lead s) ok has)
 
   -- so what it has acknowledged is chosen
-  pub acknowledged : (s : ℕ) → is_node setup.workers s ≡ true → ChosenAt (cluster_of setup) (stream_world setup w) lead.epoch s (acknowledged_log (leading lead s))
+  pub acknowledged : (s : ℕ) → is_node setup.workers s ≡ true
+      → ChosenAt (cluster_of setup) (stream_world setup w) lead.epoch s (acknowledged_log (leading lead s))
   acknowledged s there = record {
     term = term_of lead;
     term_is = is;
     within = front (len_acknowledged (leading lead s)) (leading lead s).log;
-    acked = less_chosen (cluster_of setup) (stream_world setup w) lead.epoch s (len_acknowledged (leading lead s)) (length (acknowledged_log (leading lead s)))
+    acked =
+        less_chosen (cluster_of setup) (stream_world setup w) lead.epoch s (len_acknowledged (leading lead s))
+        (length (acknowledged_log (leading lead s)))
         (front_short (len_acknowledged (leading lead s)) (leading lead s).log) (counted s there);
   }

@@ -16,7 +16,8 @@ use Rattle.rl_nodes.proofs.Deliveries.{in_range}
 -- ---- at one place ----
 
 -- what holds of what was set, and of what stood there
-pub by_set : {A : Type 0} (P : A → Type 0) (xs : List A) (i j : ℕ) (v d : A) → (j ≡ i → P v) → P (get_or xs j d) → P (get_or (set xs i v) j d)
+pub by_set : {A : Type 0} (P : A → Type 0) (xs : List A) (i j : ℕ) (v d : A) → (j ≡ i → P v) → P (get_or xs j d)
+    → P (get_or (set xs i v) j d)
 by_set P [] i j v d h k = k
 by_set P (x ∷ xs) zero zero v d h k = h refl
 by_set P (x ∷ xs) zero (suc j) v d h k = k
@@ -55,15 +56,18 @@ pub map_same : {A : Type 0} (f h : ℕ → A) (ks : List ℕ) → ((k : ℕ) →
 map_same f h [] e = refl
 map_same f h (k ∷ ks) e = ap₂ ◌∷◌ (e k (inl refl)) (map_same f h ks (λ j i. e j (inr i)))
 
-pub map_inside : {A : Type 0} (f h : ℕ → List A) (ks : List ℕ) → ((k : ℕ) → In k ks → IsPrefix (f k) (h k)) → AllZip IsPrefix (map f ks) (map h ks)
+pub map_inside : {A : Type 0} (f h : ℕ → List A) (ks : List ℕ) → ((k : ℕ) → In k ks → IsPrefix (f k) (h k))
+    → AllZip IsPrefix (map f ks) (map h ks)
 map_inside f h [] p = tt
 map_inside f h (k ∷ ks) p = (p k (inl refl), map_inside f h ks (λ j i. p j (inr i)))
 
 -- what is made of each element is made of what stands at each place
-pub map_places : {A B : Type 0} (f : A → B) (d : A) (xs : List A) (a : ℕ) → map f xs ≡ map (λ s. f (get_or xs (s - a) d)) (range_with_len a (length xs))
+pub map_places : {A B : Type 0} (f : A → B) (d : A) (xs : List A) (a : ℕ)
+    → map f xs ≡ map (λ s. f (get_or xs (s - a) d)) (range_with_len a (length xs))
 map_places f d [] a = refl
 map_places f d (x ∷ xs) a = ap₂ ◌∷◌ (ap (λ i. f (get_or (x ∷ xs) i d)) (none_left a))
-    (map_places f d xs (a + 1) ∙ map_same (λ s. f (get_or xs (s - (a + 1)) d)) (λ s. f (get_or (x ∷ xs) (s - a) d)) (range_with_len (a + 1) (length xs))
+    (map_places f d xs (a + 1) ∙ map_same (λ s. f (get_or xs (s - (a + 1)) d)) (λ s. f (get_or (x ∷ xs) (s - a) d))
+    (range_with_len (a + 1) (length xs))
     (λ s i. ap (λ j. f (get_or (x ∷ xs) j d)) (one_less a s (in_range (a + 1) (length xs) s i).0)))
   where
     none_left : (a : ℕ) → 0 ≡ a - a
@@ -95,7 +99,8 @@ logs_are (suc n) f =
 -- ---- prefixes ----
 
 -- a list that has the elements of another begins with it
-pub prefix_from : {A : Type 0} (d : A) (xs ys : List A) → ((i : ℕ) → i < length xs → (i < length ys) × (get_or ys i d ≡ get_or xs i d)) → IsPrefix xs ys
+pub prefix_from : {A : Type 0} (d : A) (xs ys : List A) → ((i : ℕ) → i < length xs → (i < length ys) × (get_or ys i d ≡ get_or xs i d))
+    → IsPrefix xs ys
 prefix_from d [] ys h = (ys, refl)
 prefix_from d (x ∷ xs) [] h = absurd (let k = h 0 (omega arith) in omega (arith, k.0))
 prefix_from d (x ∷ xs) (y ∷ ys) h =
@@ -120,8 +125,11 @@ front_short (suc n) [] = omega arith
 front_short (suc n) (x ∷ xs) = let k = front_short n xs in omega (arith, k)
 
 -- a list that begins with a front has the same front
-pub front_stays : {A : Type 0} (n : ℕ) (xs ys : List A) → n ≤ length xs → IsPrefix (take n xs) ys → (n ≤ length ys) × (take n ys ≡ take n xs)
-front_stays {A} n xs ys h p = subst (λ zs. (n ≤ length zs) × (take n zs ≡ take n xs)) p.1 (long (take n xs) p.0 n (length-take-le n xs h), take_at (take n xs) p.0 n (length-take-le n xs h))
+pub front_stays : {A : Type 0} (n : ℕ) (xs ys : List A) → n ≤ length xs → IsPrefix (take n xs) ys
+    → (n ≤ length ys) × (take n ys ≡ take n xs)
+front_stays {A} n xs ys h p =
+    subst (λ zs. (n ≤ length zs) × (take n zs ≡ take n xs)) p.1
+    (long (take n xs) p.0 n (length-take-le n xs h), take_at (take n xs) p.0 n (length-take-le n xs h))
   where
     long : (us vs : List A) (n : ℕ) → length us ≡ n → n ≤ length (us ++ vs)
     long [] vs n e = omega (arith, e)

@@ -106,18 +106,22 @@ named setup None h = tt
 named setup (Some s) h = not_false (is_node setup.workers s) h
 
 -- what is not bad names a stream that is there, and is not untrue
-pub not_bad : (setup : Setup) (a : ℕ) (x : NodeState) (m : Msg) → is_bad setup a x m ≡ false → NamesOne setup (stream_named m) × (is_untrue x m ≡ false)
+pub not_bad : (setup : Setup) (a : ℕ) (x : NodeState) (m : Msg) → is_bad setup a x m ≡ false
+    → NamesOne setup (stream_named m) × (is_untrue x m ≡ false)
 not_bad setup a x m ok =
     let wrong = list_any (is_wrong setup.program.tables) (carried m) in
     let four = neither (((is_astray setup a m || is_usurped setup m) || is_partial setup m) || wrong) (is_untrue x m) ok in
     let three = neither ((is_astray setup a m || is_usurped setup m) || is_partial setup m) wrong four.0 in
     let two = neither (is_astray setup a m || is_usurped setup m) (is_partial setup m) three.0 in
     let one = neither (is_astray setup a m) (is_usurped setup m) two.0 in
-    let both = neither (not ((head_of m).to == a) || not (is_node setup.nodes (head_of m).from)) (option_map_or (λ s. not (is_node setup.workers s)) (stream_named m) false) one.0 in
+    let both =
+    neither (not ((head_of m).to == a) || not (is_node setup.nodes (head_of m).from))
+    (option_map_or (λ s. not (is_node setup.workers s)) (stream_named m) false) one.0 in
     (named setup (stream_named m) both.1, four.1)
 
 -- a Sync whose log would be adopted begins with what is known
-sync_begins : (x : NodeState) (from to e s : ℕ) (log : bytes.Log) → is_untrue x (msg.Sync from to e s log) ≡ false → refuses x.acceptor e ≡ None
+sync_begins : (x : NodeState) (from to e s : ℕ) (log : bytes.Log) → is_untrue x (msg.Sync from to e s log) ≡ false
+    → refuses x.acceptor e ≡ None
     → nat_lt (kept_ballot x.acceptor s) e ≡ true → IsPrefix (known_log x s) log
 sync_begins x from to e s log true_of takes higher =
     let adopts : would_adopt x.acceptor e s ≡ true = (λ i. not (is_some (takes i)) && higher i) in
@@ -137,7 +141,9 @@ module _ (setup : Setup) (sent : List Msg) (a : ℕ) (x : NodeState) where
   -- it knows the same of the same logs
   same : (y : NodeState) → y.known ≡ x.known → y.replica ≡ x.replica → y.acceptor.streams ≡ x.acceptor.streams → Moves setup sent x y
   same y known replica streams = Keeps known replica (λ s there h.
-      subst (λ (kept : List Kept). (known_len x s ≤ length (slice_index_or kept (s - 1) nothing_kept).log) × (take (known_len x s) (slice_index_or kept (s - 1) nothing_kept).log ≡ known_log x s))
+      subst
+      (λ (kept : List Kept). (known_len x s ≤ length (slice_index_or kept (s - 1) nothing_kept).log)
+      × (take (known_len x s) (slice_index_or kept (s - 1) nothing_kept).log ≡ known_log x s))
       (sym streams) (h, refl))
 
   parted : (part : Part) → Moves setup sent x (record x { part = part })
@@ -184,9 +190,17 @@ module _ (setup : Setup) (sent : List Msg) (a : ℕ) (x : NodeState) where
       let ms : List Msg = to_each setup (known_to a new s) in
       let core = setup.work.opening new.epoch (acknowledged_history new) in
       did_if (lead.epoch == e) (counts_ack setup a x lead s from len) (quiet x)
-      (did_if (nat_lt (len_acknowledged (leading lead s)) (len_acknowledged (leading new s))) (advances setup a x lead new s) (quiet (record x { part = Leads new }))
-      (did_if (has_opened new) (releases x (acknowledged_history lead) new ms) (if marks_are_acknowledged new then opens setup x new ms else sending (record x { part = Leads new }) ms)
-      (record { says = say_each (Leads new) (known_to a new s) (λ k. (there, refl, refl)); gives = (refl, refl); opens = tt; moves = parted (Leads new) })
+      (did_if (nat_lt (len_acknowledged (leading lead s)) (len_acknowledged (leading new s))) (advances setup a x lead new s)
+      (quiet (record x { part = Leads new }))
+      (did_if (has_opened new) (releases x (acknowledged_history lead) new ms)
+      (if marks_are_acknowledged new then opens setup x new ms else sending (record x { part = Leads new }) ms)
+      (record {
+        says = say_each (Leads new) (known_to a new s) (λ k. (there, refl, refl));
+        gives = (refl, refl);
+        opens = tt;
+        moves = parted
+            (Leads new);
+      })
       (did_if (marks_are_acknowledged new) (opens setup x new ms) (sending (record x { part = Leads new }) ms)
       (record {
         says = say_each (Leads (record new { core = Some core })) (known_to a new s) (λ k. (there, refl, refl));
@@ -201,7 +215,8 @@ module _ (setup : Setup) (sent : List Msg) (a : ℕ) (x : NodeState) where
   leads_fine : (c : Candidate) → Fine (leads setup a x c)
   leads_fine c =
       let lead : Lead = new_lead setup c in
-      sends (record x { part = Leads lead }) (flat_map (λ s. to_each setup (sync_to a lead s)) (stream_numbers setup)) (parted (Leads lead)) (λ m i.
+      sends (record x { part = Leads lead }) (flat_map (λ s. to_each setup (sync_to a lead s)) (stream_numbers setup))
+      (parted (Leads lead)) (λ m i.
       let s = flat_in (λ s. to_each setup (sync_to a lead s)) (stream_numbers setup) m i in
       say_each (Leads lead) (sync_to a lead s.0) (λ k. tt) m s.2)
 
@@ -211,16 +226,21 @@ module _ (setup : Setup) (sent : List Msg) (a : ℕ) (x : NodeState) where
   promise_fine (Stands c) e p =
       let more : Candidate = with_promise c p in
       fine_if (c.epoch == e) (stands_or_leads setup a x more) (Ok (quiet x))
-      (fine_if (nat_lt (length more.promises) more.need) (Ok (quiet (record x { part = Stands more }))) (recovers_full setup more (Ok (leads setup a x more)))
+      (fine_if (nat_lt (length more.promises) more.need) (Ok (quiet (record x { part = Stands more })))
+      (recovers_full setup more (Ok (leads setup a x more)))
       (quiet_part (Stands more))
-      (fine_if (list_any (λ log. length log == SLOTS) (recovered_logs more.promises setup.workers)) (Err (StreamFull SLOTS)) (Ok (leads setup a x more))
+      (fine_if (list_any (λ log. length log == SLOTS) (recovered_logs more.promises setup.workers)) (Err (StreamFull SLOTS))
+      (Ok (leads setup a x more))
       tt (leads_fine more)))
       nothing
 
   -- a log that begins with what is known
-  adopted : (e s : ℕ) (log : bytes.Log) → IsPrefix (known_log x s) log → Moves setup sent x (record x { acceptor = with_kept (prepared x.acceptor e) s e log })
+  adopted : (e s : ℕ) (log : bytes.Log) → IsPrefix (known_log x s) log
+      → Moves setup sent x (record x { acceptor = with_kept (prepared x.acceptor e) s e log })
   adopted e s log begun = Keeps refl refl (λ t there.
-      by_set (λ (k : Kept). known_len x t ≤ length (kept_log x.acceptor t) → (known_len x t ≤ length k.log) × (take (known_len x t) k.log ≡ known_log x t))
+      by_set
+      (λ (k : Kept). known_len x t ≤ length (kept_log x.acceptor t) → (known_len x t ≤ length k.log)
+      × (take (known_len x t) k.log ≡ known_log x t))
       x.acceptor.streams (s - 1) (t - 1) (record { ballot = e; log = log }) nothing_kept
       (λ here h. front_stays (known_len x t) (kept_log x.acceptor t) log h
       (subst (λ i. IsPrefix (take (slice_index x.known i) (slice_index_or x.acceptor.streams i nothing_kept).log) log) (sym here) begun))
@@ -232,38 +252,53 @@ module _ (setup : Setup) (sent : List Msg) (a : ℕ) (x : NodeState) where
   synced_moves from to e s log true_of takes true is = adopted e s log (sync_begins x from to e s log true_of takes is)
   synced_moves from to e s log true_of takes false is = same (record x { acceptor = prepared x.acceptor e }) refl refl refl
 
-  sync_fine : (from to e s : ℕ) (log : bytes.Log) → is_untrue x (msg.Sync from to e s log) ≡ false → (o : Option Refused) → refuses x.acceptor e ≡ o
+  sync_fine : (from to e s : ℕ) (log : bytes.Log) → is_untrue x (msg.Sync from to e s log) ≡ false → (o : Option Refused)
+      → refuses x.acceptor e ≡ o
       → Fine (unless_denied o x (acks a x from e s (synced x.acceptor e s log)))
   sync_fine from to e s log true_of None is =
       let ack : Msg = msg.Ack a from e s (length (kept_log (synced x.acceptor e s log) s)) in
-      sends (record x { acceptor = synced x.acceptor e s log }) (ack ∷ []) (synced_moves from to e s log true_of is (nat_lt (kept_ballot x.acceptor s) e) refl) (say_one x.part ack tt)
+      sends (record x { acceptor = synced x.acceptor e s log }) (ack ∷ [])
+      (synced_moves from to e s log true_of is (nat_lt (kept_ballot x.acceptor s) e) refl) (say_one x.part ack tt)
   sync_fine from to e s log true_of (Some refused) is =
       fine_unless (Some refused) (quiet x) nothing
 
   -- a log with one more batch
   appended : (s : ℕ) (batch : bytes.Batch) (next : Bool)
-      → Moves setup sent x (record x { acceptor = if next then with_kept x.acceptor s (kept_ballot x.acceptor s) (kept_log x.acceptor s ++ batch ∷ []) else x.acceptor })
+      → Moves setup sent x (record x {
+        acceptor = if next then with_kept x.acceptor s (kept_ballot x.acceptor s)
+            (kept_log x.acceptor s ++ batch ∷ []) else x.acceptor;
+      })
   appended s batch true = Keeps refl refl (λ t there.
-      by_set (λ (k : Kept). known_len x t ≤ length (kept_log x.acceptor t) → (known_len x t ≤ length k.log) × (take (known_len x t) k.log ≡ known_log x t))
-      x.acceptor.streams (s - 1) (t - 1) (record { ballot = kept_ballot x.acceptor s; log = kept_log x.acceptor s ++ batch ∷ [] }) nothing_kept
+      by_set
+      (λ (k : Kept). known_len x t ≤ length (kept_log x.acceptor t) → (known_len x t ≤ length k.log)
+      × (take (known_len x t) k.log ≡ known_log x t))
+      x.acceptor.streams (s - 1) (t - 1)
+      (record { ballot = kept_ballot x.acceptor s; log = kept_log x.acceptor s ++ batch ∷ [] }) nothing_kept
       (λ here h.
       subst (λ i. (known_len x t ≤ length ((slice_index_or x.acceptor.streams i nothing_kept).log ++ batch ∷ []))
-      × (take (known_len x t) ((slice_index_or x.acceptor.streams i nothing_kept).log ++ batch ∷ []) ≡ known_log x t)) here
-      (omega (arith, h, length-append (kept_log x.acceptor t) (batch ∷ [])), take-append-le (known_len x t) (kept_log x.acceptor t) (batch ∷ []) h))
+      × (take (known_len x t) ((slice_index_or x.acceptor.streams i nothing_kept).log ++ batch ∷ []) ≡ known_log x t)) here (
+        omega (arith, h, length-append (kept_log x.acceptor t) (batch ∷ [])),
+        take-append-le (known_len x t) (kept_log x.acceptor t)
+            (batch ∷ []) h,
+      ))
       (λ h. (h, refl)))
   appended s batch false = same x refl refl refl
 
   takes_fine : (m : Msg) → In m sent → NamesOne setup (stream_named m) → is_untrue x m ≡ false → FineTo (takes setup a x m)
   takes_fine (msg.Prepare from to e) i there true_of =
-      let promise : Msg = msg.Promise a from e (map (λ (k : Kept). k.ballot) x.acceptor.streams) (map (λ (k : Kept). k.log) x.acceptor.streams) in
+      let promise : Msg =
+      msg.Promise a from e (map (λ (k : Kept). k.ballot) x.acceptor.streams) (map (λ (k : Kept). k.log) x.acceptor.streams) in
       fine_unless (refuses x.acceptor e) (promises a x from e)
-      (sends (record x { acceptor = prepared x.acceptor e }) (promise ∷ []) (same (record x { acceptor = prepared x.acceptor e }) refl refl refl) (say_one x.part promise tt))
-  takes_fine (msg.Promise from to e ballots logs) i there true_of = promise_fine x.part e (record { node = from; ballots = ballots; logs = logs })
+      (sends (record x { acceptor = prepared x.acceptor e }) (promise ∷ [])
+      (same (record x { acceptor = prepared x.acceptor e }) refl refl refl) (say_one x.part promise tt))
+  takes_fine (msg.Promise from to e ballots logs) i there true_of =
+      promise_fine x.part e (record { node = from; ballots = ballots; logs = logs })
   takes_fine (msg.Sync from to e s log) i there true_of = sync_fine from to e s log true_of (refuses x.acceptor e) refl
   takes_fine (msg.Accept from to e s slot batch) i there true_of =
       let ack : Msg = msg.Ack a from e s (length (kept_log (accepted x.acceptor s slot batch) s)) in
       fine_unless (refuses_accept x.acceptor e s slot) (acks a x from e s (accepted x.acceptor s slot batch))
-      (sends (record x { acceptor = accepted x.acceptor s slot batch }) (ack ∷ []) (appended s batch (slot == length (kept_log x.acceptor s))) (say_one x.part ack tt))
+      (sends (record x { acceptor = accepted x.acceptor s slot batch }) (ack ∷ [])
+      (appended s batch (slot == length (kept_log x.acceptor s))) (say_one x.part ack tt))
   takes_fine (msg.Ack from to e s len) i there true_of = ack_fine x.part e s from len there
   takes_fine (msg.Known from to e s len) i there true_of = still (knows x e s len) (Learns from to e s len i refl)
 
@@ -273,14 +308,16 @@ module _ (setup : Setup) (sent : List Msg) (a : ℕ) (x : NodeState) where
   proposes_fine lead s batch =
       let new : Lead = with_leading lead s (proposed (leading lead s) (batch_bytes batch)) in
       let accept : ℕ → Msg = λ to. msg.Accept a to lead.epoch s (length (leading lead s).log) (batch_bytes batch) in
-      fine_if (length (leading lead s).log == SLOTS) (Err (StreamFull SLOTS)) (Ok (sending (record x { part = Leads new }) (to_each setup accept)))
+      fine_if (length (leading lead s).log == SLOTS) (Err (StreamFull SLOTS))
+      (Ok (sending (record x { part = Leads new }) (to_each setup accept)))
       tt (sends (record x { part = Leads new }) (to_each setup accept) (parted (Leads new)) (say_each (Leads new) accept (λ k. tt)))
 
   refusal_fine : (answer : Answer) (f : Option CoreRefusal) → FineTo answer → FineTo (answer >>= λ did. Ok (record did { refusal = f }))
   refusal_fine (Ok did) f h = record { says = h.says; gives = h.gives; opens = h.opens; moves = h.moves }
   refusal_fine (Err e) f h = tt
 
-  open_fine : (does : Lead → Core → Answer) → ((lead : Lead) (core : Core) → FineTo (does lead core)) → (part : Part) → FineTo (if_open x part does)
+  open_fine : (does : Lead → Core → Answer) → ((lead : Lead) (core : Core) → FineTo (does lead core)) → (part : Part)
+      → FineTo (if_open x part does)
   open_fine does h Follows = nothing
   open_fine does h (Stands c) = nothing
   open_fine does h (Leads lead) = by_core lead.core
@@ -294,7 +331,8 @@ module _ (setup : Setup) (sent : List Msg) (a : ℕ) (x : NodeState) where
       let after = turn (setup.work.setting lead.epoch) core (Step s) in
       let next : Lead = stepped lead core after s in
       refusal_fine (proposes_full setup a x next s) (newly_refused core after)
-      (fine_if (nat_lt (length (pending_of next s)) setup.batch) (Ok (quiet (record x { part = Leads next }))) (proposes_items setup a x next s (pending_of next s))
+      (fine_if (nat_lt (length (pending_of next s)) setup.batch) (Ok (quiet (record x { part = Leads next })))
+      (proposes_items setup a x next s (pending_of next s))
       (quiet_part (Leads next)) (proposes_fine (with_pending next s []) s (Items (pending_of next s))))
 
   flushes_fine : (s : ℕ) (lead : Lead) (core : Core)
@@ -307,7 +345,8 @@ module _ (setup : Setup) (sent : List Msg) (a : ℕ) (x : NodeState) where
   idles_fine s lead core =
       let after = turn (setup.work.setting lead.epoch) core (Idle s) in
       let ends : Answer = proposes setup a x lead s (idle_mark lead.epoch END_SEQ) in
-      let marks : Answer = proposes setup a x (record lead { core = Some after }) s (idle_mark lead.epoch (core.next - lead.epoch * 2 ^ 40)) in
+      let marks : Answer =
+      proposes setup a x (record lead { core = Some after }) s (idle_mark lead.epoch (core.next - lead.epoch * 2 ^ 40)) in
       let done : Bool = is_done (setup.work.setting lead.epoch) s (phase_of core s) in
       fine_if (not (may_idle lead s core)) (Ok (quiet x)) (if done then ends else marks) nothing
       (fine_if done ends marks (proposes_fine lead s (idle_mark lead.epoch END_SEQ))
@@ -320,10 +359,17 @@ module _ (setup : Setup) (sent : List Msg) (a : ℕ) (x : NodeState) where
       let e = next_epoch_of x.acceptor.promised a setup.nodes in
       let did : Did = stands setup a x e in
       fine_if (nat_lt e (2 ^ 20)) (Ok did) (Err (NoEpoch x.acceptor.promised))
-      (record { says = say_each did.node.part (λ to. msg.Prepare a to e) (λ k. tt); gives = tt; opens = tt; moves = same did.node refl refl refl }) tt
+      (record {
+        says = say_each did.node.part (λ to. msg.Prepare a to e)
+            (λ k. tt);
+        gives = tt;
+        opens = tt;
+        moves = same did.node refl refl refl;
+      }) tt
 
   resent : (lead : Lead) (s to : ℕ) (m : Msg) (fewer : Bool)
-      → In m (if fewer then sync_to a lead s to ∷ [] else accepts_from a lead s (acked_len (leading lead s) to) to) → Says setup (Leads lead) m
+      → In m (if fewer then sync_to a lead s to ∷ [] else accepts_from a lead s (acked_len (leading lead s) to) to)
+      → Says setup (Leads lead) m
   resent lead s to m true i = say_one (Leads lead) (sync_to a lead s to) tt m i
   resent lead s to m false i =
       let from = acked_len (leading lead s) to in
@@ -341,17 +387,20 @@ module _ (setup : Setup) (sent : List Msg) (a : ℕ) (x : NodeState) where
   again (Stands c) m i =
       let k = map_in (λ to. msg.Prepare a to c.epoch) m (filter (λ to. not (has_promised c.promises to)) (node_numbers setup)) i in
       subst (Says setup (Stands c)) k.2 tt
-  again (Leads lead) m i = elim (in_split (flat_map (λ s. flat_map (resends_to a lead s) (node_numbers setup)) (stream_numbers setup)) (flat_map (knowns setup a lead) (stream_numbers setup)) m i) [
-    | inl j ↦ (
-        let s = flat_in (λ s. flat_map (resends_to a lead s) (node_numbers setup)) (stream_numbers setup) m j in
-        let to = flat_in (resends_to a lead s.0) (node_numbers setup) m s.2 in
-        resent lead s.0 to.0 m (nat_lt (acked_len (leading lead s.0) to.0) (leading lead s.0).initial_len) to.2
-        )
-    | inr j ↦ (
-        let s = flat_in (knowns setup a lead) (stream_numbers setup) m j in
-        known_again lead s.0 (in_numbers setup.workers s.0 s.1) m (len_acknowledged (leading lead s.0) == 0) s.2
-        )
-  ]
+  again (Leads lead) m i =
+      elim
+      (in_split (flat_map (λ s. flat_map (resends_to a lead s) (node_numbers setup)) (stream_numbers setup))
+      (flat_map (knowns setup a lead) (stream_numbers setup)) m i) [
+        | inl j ↦ (
+            let s = flat_in (λ s. flat_map (resends_to a lead s) (node_numbers setup)) (stream_numbers setup) m j in
+            let to = flat_in (resends_to a lead s.0) (node_numbers setup) m s.2 in
+            resent lead s.0 to.0 m (nat_lt (acked_len (leading lead s.0) to.0) (leading lead s.0).initial_len) to.2
+            )
+        | inr j ↦ (
+            let s = flat_in (knowns setup a lead) (stream_numbers setup) m j in
+            known_again lead s.0 (in_numbers setup.workers s.0 s.1) m (len_acknowledged (leading lead s.0) == 0) s.2
+            )
+      ]
 
   -- ---- anything ----
 
@@ -364,7 +413,10 @@ module _ (setup : Setup) (sent : List Msg) (a : ℕ) (x : NodeState) where
   pub tells : (cause : Cause) → IsFor setup sent cause → (did : Did) → answer_to setup a x cause ≡ Ok did → Tells setup sent x did
   tells (Takes m) is_for did is = receives_fine m is_for did is
   tells (Steps s) is_for did is = subst FineTo is (open_fine (λ lead core. steps_core setup a x lead s core) (steps_fine s) x.part)
-  tells (Flushes s) is_for did is = subst FineTo is (open_fine (λ lead core. if length (pending_of lead s) == 0 then Ok (quiet x) else proposes_items setup a x lead s (pending_of lead s)) (flushes_fine s) x.part)
+  tells (Flushes s) is_for did is =
+      subst FineTo is
+      (open_fine (λ lead core. if length (pending_of lead s) == 0 then Ok (quiet x) else proposes_items setup a x lead s
+      (pending_of lead s)) (flushes_fine s) x.part)
   tells (Idles s) is_for did is = subst FineTo is (open_fine (λ lead core. idles_core setup a x lead s core) (idles_fine s) x.part)
   tells Elects is_for did is = subst FineTo is elects_fine
   tells Ticks is_for did is = subst FineTo is (sends x (sends_again setup a x.part) (same x refl refl refl) (again x.part))

@@ -56,7 +56,8 @@ abbrev pub AreStamped : Setup → StreamWorld → Type 0
 AreStamped setup v = (f : ℕ → bytes.Log) → ((s : ℕ) → is_node setup.workers s ≡ true → LeaderPart v s (f s)) → IsStamped (family_of setup f)
 
 -- and so they had before
-pub stamped_before : (setup : Setup) (v after : StreamWorld) → Later (cluster_of setup) v after → AreStamped setup after → AreStamped setup v
+pub stamped_before : (setup : Setup) (v after : StreamWorld) → Later (cluster_of setup) v after → AreStamped setup after
+    → AreStamped setup v
 stamped_before setup v after later h f parts = h f (λ s there. leader_stays (cluster_of setup) v after later s (f s) there (parts s there))
 
 -- a Known that was sent tells what a second quorum acked
@@ -65,7 +66,8 @@ TellsChosen setup v (msg.Known from to e s len) =
     (t : Term) × (is_node setup.workers s ≡ true) × (v.terms e ≡ Some t) × (is_chosen_len (cluster_of setup) v e s len ≡ true)
 TellsChosen setup v other = Unit {0}
 
-pub telling_stays : (setup : Setup) (v after : StreamWorld) → Later (cluster_of setup) v after → (m : Msg) → TellsChosen setup v m → TellsChosen setup after m
+pub telling_stays : (setup : Setup) (v after : StreamWorld) → Later (cluster_of setup) v after → (m : Msg) → TellsChosen setup v m
+    → TellsChosen setup after m
 telling_stays setup v after later (msg.Known from to e s len) h =
     let u = later.logs e h.0 h.2 s h.1 in (u.0, h.1, u.1, len_stays (cluster_of setup) v after later.sent e s len h.3)
 telling_stays setup v after later (msg.Prepare from to e) h = tt
@@ -90,15 +92,18 @@ KeepsLogs setup v x = (s e : ℕ) → is_node setup.workers s ≡ true → kept_
     → IsPrefix (kept_log x.acceptor s) (stream_of t s).log
 
 -- so it is with each node of a world that goes with streams
-pub keeps_logs : (setup : Setup) (w : World) → TiedRun setup w → (a : ℕ) → is_node setup.nodes a ≡ true → KeepsLogs setup (stream_world setup w) (node_of setup w a)
+pub keeps_logs : (setup : Setup) (w : World) → TiedRun setup w → (a : ℕ) → is_node setup.nodes a ≡ true
+    → KeepsLogs setup (stream_world setup w) (node_of setup w a)
 keeps_logs setup w r a there s e in_stream ballot t is =
     let v : StreamWorld = streams_after (cluster_of setup) r.events in
     let inv : Inv (cluster_of setup) v = inv_of (cluster_of setup) r.events in
     let term : v.terms e ≡ Some t = ap (λ f. f e) r.tied.terms ∙ is in
     let born : 0 < e = (inv.term_ok e t term).born in
     let ok : KeptOk v (node_of setup w a).acceptor.promised (s - 1) (kept_at (node_of setup w a).acceptor (s - 1)) =
-    subst (λ (n : world.Node). KeptOk v n.acceptor.promised (s - 1) (kept_at n.acceptor (s - 1))) (r.tied.node a there) ((inv.node_ok a).kept (s - 1)) in
-    let led : InLeaderLog v (kept_ballot (node_of setup w a).acceptor s) (s - 1) (kept_log (node_of setup w a).acceptor s) = ok.has (omega (arith, ballot, born)) in
+    subst (λ (n : world.Node). KeptOk v n.acceptor.promised (s - 1) (kept_at n.acceptor (s - 1))) (r.tied.node a there)
+    ((inv.node_ok a).kept (s - 1)) in
+    let led : InLeaderLog v (kept_ballot (node_of setup w a).acceptor s) (s - 1) (kept_log (node_of setup w a).acceptor s) =
+    ok.has (omega (arith, ballot, born)) in
     let one : led.term ≡ t = some_same led.term t (v.terms e) (ap v.terms (sym ballot) ∙ led.term_is) term in
     subst (λ z. IsPrefix (kept_log (node_of setup w a).acceptor s) (stream_of z s).log) one led.within
 
@@ -108,11 +113,14 @@ module _ (setup : Setup) (v : StreamWorld) where
   abbrev Good : NodeState → Type 0
   Good x = NodeOk setup v x
 
-  known_stamped : (x : NodeState) → AreStamped setup v → ((s : ℕ) → is_node setup.workers s ≡ true → ChosenPart (cluster_of setup) v s (known_log x s)) → IsStamped (known_family setup x)
-  known_stamped x stamped chosen = stamped (λ s. known_log x s) (λ s there. leader_part (cluster_of setup) v s (known_log x s) (chosen s there))
+  known_stamped : (x : NodeState) → AreStamped setup v
+      → ((s : ℕ) → is_node setup.workers s ≡ true → ChosenPart (cluster_of setup) v s (known_log x s)) → IsStamped (known_family setup x)
+  known_stamped x stamped chosen =
+      stamped (λ s. known_log x s) (λ s there. leader_part (cluster_of setup) v s (known_log x s) (chosen s there))
 
   -- it knows the same
-  keeps : (x y : NodeState) → Good x → y.known ≡ x.known → y.replica ≡ x.replica → ((s : ℕ) → is_node setup.workers s ≡ true → Holds x y s) → Good y
+  keeps : (x y : NodeState) → Good x → y.known ≡ x.known → y.replica ≡ x.replica → ((s : ℕ) → is_node setup.workers s ≡ true → Holds x y s)
+      → Good y
   keeps x y ok known replica holds = record {
     within = λ s there. subst (λ n. n ≤ length (kept_log y.acceptor s)) (len_same s) (holds s there (ok.within s there)).0;
     chosen = λ s there. subst (ChosenPart (cluster_of setup) v s) (sym (log_same s there)) (ok.chosen s there);
@@ -137,7 +145,9 @@ module _ (setup : Setup) (v : StreamWorld) where
   forgets y known replica = record {
     within = λ s there. let k = none s in omega (arith, k);
     chosen = λ s there. inl (ap (λ n. take n (kept_log y.acceptor s)) (none s));
-    replica = λ stamped. subst (IsReplicaOf setup.program.rows (known_family setup y)) (sym (replica ∙ fresh)) (replicas_begin setup.program.rows (known_family setup y));
+    replica =
+        λ stamped. subst (IsReplicaOf setup.program.rows (known_family setup y)) (sym (replica ∙ fresh))
+        (replicas_begin setup.program.rows (known_family setup y));
     working = ap (λ (r : Replaying). r.failed) replica;
   }
     where
@@ -145,7 +155,9 @@ module _ (setup : Setup) (v : StreamWorld) where
       none s = ap (λ k. slice_index k (s - 1)) known ∙ same_in setup.workers 0 (s - 1)
 
       sizes : length (replicate {A = List Batch} setup.workers []) ≡ length (known_family setup y)
-      sizes = length-replicate setup.workers [] ∙ sym (map_length (λ s. batches_of (known_log y s)) (stream_numbers setup) ∙ range_length 1 setup.workers)
+      sizes =
+          length-replicate setup.workers []
+          ∙ sym (map_length (λ s. batches_of (known_log y s)) (stream_numbers setup) ∙ range_length 1 setup.workers)
 
       fresh : opening_replica setup ≡ new_replica setup.program.rows (known_family setup y)
       fresh = ap (λ n. record { applied = []; played = replicate n 0; rows = setup.program.rows; failed = false }) sizes
@@ -171,7 +183,9 @@ module _ (setup : Setup) (v : StreamWorld) where
       record {
         within = ok.within;
         chosen = ok.chosen;
-        replica = λ stamped. played_ok (known_family setup x) s (known_stamped x stamped ok.chosen) (stream_is x s there) (length (entries (log_at (known_family setup x) s))) x.replica (ok.replica stamped);
+        replica =
+            λ stamped. played_ok (known_family setup x) s (known_stamped x stamped ok.chosen) (stream_is x s there)
+            (length (entries (log_at (known_family setup x) s))) x.replica (ok.replica stamped);
         working = played_works (known_family setup x) s (length (entries (log_at (known_family setup x) s))) x.replica ok.working;
       }
     where
@@ -179,7 +193,9 @@ module _ (setup : Setup) (v : StreamWorld) where
       stream_is x s there = record {
         low = node_low setup.workers s there;
         high = (let high = node_high setup.workers s there in
-            let size = map_length (λ s. batches_of (known_log x s)) (stream_numbers setup) ∙ range_length 1 setup.workers in omega (arith, high, size));
+            let size =
+            map_length (λ s. batches_of (known_log x s)) (stream_numbers setup)
+            ∙ range_length 1 setup.workers in omega (arith, high, size));
       }
 
   -- ---- it learns that more is chosen ----
@@ -205,7 +221,9 @@ module _ (setup : Setup) (v : StreamWorld) where
               term = t;
               term_is = is;
               within = prefix_trans _ _ _ (front (min len (length (kept_log x.acceptor s))) (kept_log x.acceptor s)) kept;
-              acked = less_chosen (cluster_of setup) v e s len (length (take (min len (length (kept_log x.acceptor s))) (kept_log x.acceptor s))) (omega (arith, short)) acked;
+              acked =
+                  less_chosen (cluster_of setup) v e s len
+                  (length (take (min len (length (kept_log x.acceptor s))) (kept_log x.acceptor s))) (omega (arith, short)) acked;
             },
           )))
       | inr below ↦ (
@@ -214,10 +232,13 @@ module _ (setup : Setup) (v : StreamWorld) where
     ]
 
     -- by stream: what is known of this one, and of the others
-    by_stream : (P : (r n : ℕ) → Type 0) → P s more → ((r : ℕ) → is_node setup.workers r ≡ true → P r (known_len x r)) → (r : ℕ) → is_node setup.workers r ≡ true → P r (known_len now r)
+    by_stream : (P : (r n : ℕ) → Type 0) → P s more → ((r : ℕ) → is_node setup.workers r ≡ true → P r (known_len x r)) → (r : ℕ)
+        → is_node setup.workers r ≡ true → P r (known_len now r)
     by_stream P here others r in_stream = elim (cases_eq r s) [
       | inl q ↦ subst (λ z. P z (known_len now z)) (sym q) (by_set (P s) x.known (s - 1) (s - 1) more 0 (λ same. here) (others s there))
-      | inr apart ↦ subst (P r) (sym (get_or-set_other x.known (s - 1) (r - 1) more 0 (λ same. apart (no_other r s (node_low setup.workers r in_stream) (node_low setup.workers s there) same)))) (others r in_stream)
+      | inr apart ↦ subst (P r) (sym
+          (get_or-set_other x.known (s - 1) (r - 1) more 0
+          (λ same. apart (no_other r s (node_low setup.workers r in_stream) (node_low setup.workers s there) same)))) (others r in_stream)
     ]
       where
         no_other : (r s : ℕ) → 1 ≤ r → 1 ≤ s → r - 1 ≡ s - 1 → r ≡ s
@@ -234,26 +255,34 @@ module _ (setup : Setup) (v : StreamWorld) where
     learned = record {
       within = by_stream (λ r n. n ≤ length (kept_log x.acceptor r)) (let k = ok.within s there in omega (arith, k)) ok.within;
       chosen = all_chosen;
-      replica = λ stamped. replicas_go_on setup.program.rows (known_family setup x) x.replica (known_stamped x stamped ok.chosen) (ok.replica stamped)
+      replica =
+          λ stamped. replicas_go_on setup.program.rows (known_family setup x) x.replica (known_stamped x stamped ok.chosen)
+          (ok.replica stamped)
           (known_family setup now) (map_inside (λ r. batches_of (known_log x r)) (λ r. batches_of (known_log now r)) (stream_numbers setup)
           (λ r i. batches_begin (known_log x r) (known_log now r) (longer r (in_numbers setup.workers r i))))
           (known_stamped now stamped all_chosen);
       working = ok.working;
     }
 
-  learns : (x : NodeState) → Good x → KeepsLogs setup v x → (from to e s len : ℕ) → TellsChosen setup v (msg.Known from to e s len) → Good (knows x e s len)
+  learns : (x : NodeState) → Good x → KeepsLogs setup v x → (from to e s len : ℕ) → TellsChosen setup v (msg.Known from to e s len)
+      → Good (knows x e s len)
   learns x ok kept from to e s len k = by_ballot (kept_ballot x.acceptor s == e) refl
     where
       by_ballot : (b : Bool) → (kept_ballot x.acceptor s == e) ≡ b
-          → Good (if b then record x { known = slice_set x.known (s - 1) (max (known_len x s) (min len (length (kept_log x.acceptor s)))) } else x)
+          → Good (if b then record x {
+            known = slice_set x.known (s - 1)
+                (max (known_len x s) (min len (length (kept_log x.acceptor s))));
+          } else x)
       by_ballot true same = learned x ok e s len k.1 k.0 k.2 k.3 (kept s e k.1 (true_same (kept_ballot x.acceptor s) e same) k.0 k.2)
       by_ballot false other = ok
 
   -- ---- any of these ----
 
-  pub moves_ok : (sent : List Msg) (x y : NodeState) → Good x → KeepsLogs setup v x → ((m : Msg) → In m sent → TellsChosen setup v m) → Moves setup sent x y → Good y
+  pub moves_ok : (sent : List Msg) (x y : NodeState) → Good x → KeepsLogs setup v x → ((m : Msg) → In m sent → TellsChosen setup v m)
+      → Moves setup sent x y → Good y
   moves_ok sent x y ok kept known (Keeps same replica holds) = keeps x y ok same replica holds
-  moves_ok sent x y ok kept known (Learns from to e s len i is) = subst Good (sym is) (learns x ok kept from to e s len (known (msg.Known from to e s len) i))
+  moves_ok sent x y ok kept known (Learns from to e s len i is) =
+      subst Good (sym is) (learns x ok kept from to e s len (known (msg.Known from to e s len) i))
   moves_ok sent x y ok kept known (Forgets same replica) = forgets y same replica
   moves_ok sent x y ok kept known (Replays s there is) = subst Good (sym is) (replays x s there ok)
 
@@ -262,7 +291,8 @@ module _ (setup : Setup) (v : StreamWorld) where
 
 -- ---- in a later world ----
 
-pub node_stays : (setup : Setup) (v after : StreamWorld) → Later (cluster_of setup) v after → (x : NodeState) → NodeOk setup v x → NodeOk setup after x
+pub node_stays : (setup : Setup) (v after : StreamWorld) → Later (cluster_of setup) v after → (x : NodeState) → NodeOk setup v x
+    → NodeOk setup after x
 node_stays setup v after later x ok = record {
   within = ok.within;
   chosen = λ s there. part_stays (cluster_of setup) v after later s (known_log x s) there (ok.chosen s there);

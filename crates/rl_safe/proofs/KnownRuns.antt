@@ -83,7 +83,8 @@ after_step setup w step = after_doing w step.node step.number step.did
 pub record IsKept (setup : Setup) (P : World → Type 0) : Type 0 where
   pub marked : (w : World) (sent : List Sent) → messages sent ≡ messages w.sent → P w → P (record w { sent = sent })
   pub told : (w : World) (line : Line) → P w → P (with_line w line)
-  pub does : (w : World) → TiedRun setup w → P w → (step : Step setup w) → TiedRun setup (after_step setup w step) → P (after_step setup w step)
+  pub does : (w : World) → TiedRun setup w → P w → (step : Step setup w) → TiedRun setup (after_step setup w step)
+      → P (after_step setup w step)
 
 -- ---- one after another ----
 
@@ -96,12 +97,14 @@ module _ (setup : Setup) (P : World → Type 0) (kept : IsKept setup P) where
   BothTo (Ok w) = Both w
   BothTo (Err limit) = Unit {0}
 
-  few : (w : World) (many : Bool) → TiedTo setup (if many then Err Bytes else Ok w) → (TiedRun setup w → P w) → BothTo (if many then Err Bytes else Ok w)
+  few : (w : World) (many : Bool) → TiedTo setup (if many then Err Bytes else Ok w) → (TiedRun setup w → P w)
+      → BothTo (if many then Err Bytes else Ok w)
   few w true t p = tt
   few w false t p = (t, p t)
 
   answering : (w : World) → Both w → (a number : ℕ) → is_node setup.nodes a ≡ true → (cause : Cause) → IsFor setup (messages w.sent) cause
-      → (answer : Answer) → answer_to setup a (node_of setup w a) cause ≡ answer → TiedTo setup (after_answer w a number answer) → BothTo (after_answer w a number answer)
+      → (answer : Answer) → answer_to setup a (node_of setup w a) cause ≡ answer → TiedTo setup (after_answer w a number answer)
+      → BothTo (after_answer w a number answer)
   answering w b a number there cause is_for (Ok did) is t =
       few (after_doing w a number did) (nat_lt BYTES (bytes_sent (after_doing w a number did).sent)) t
       (kept.does w b.0 b.1 (record { node = a; number = number; there = there; cause = cause; is_for = is_for; did = did; answers = is }))
@@ -113,14 +116,16 @@ module _ (setup : Setup) (P : World → Type 0) (kept : IsKept setup P) where
   acts : (w : World) → Both w → (a number : ℕ) → is_node setup.nodes a ≡ true → (cause : Cause) → IsFor setup (messages w.sent) cause
       → (up : Bool) → TiedTo setup (if up then after_answer w a number (answer_to setup a (node_of setup w a) cause) else Ok w)
       → BothTo (if up then after_answer w a number (answer_to setup a (node_of setup w a) cause) else Ok w)
-  acts w b a number there cause is_for true t = answering w b a number there cause is_for (answer_to setup a (node_of setup w a) cause) refl t
+  acts w b a number there cause is_for true t =
+      answering w b a number there cause is_for (answer_to setup a (node_of setup w a) cause) refl t
   acts w b a number there cause is_for false t = b
 
   binds : (r : Ran) (f : World → Ran) → BothTo r → ((w : World) → Both w → BothTo (f w)) → BothTo (r >>= f)
   binds (Ok w) f h g = g w h
   binds (Err e) f h g = tt
 
-  each : (ks : List ℕ) (does : ℕ → World → Ran) → ((k : ℕ) → In k ks → (w : World) → Both w → BothTo (does k w)) → (w : World) → Both w → BothTo (for_each ks does w)
+  each : (ks : List ℕ) (does : ℕ → World → Ran) → ((k : ℕ) → In k ks → (w : World) → Both w → BothTo (does k w)) → (w : World) → Both w
+      → BothTo (for_each ks does w)
   each [] does h w b = b
   each (k ∷ ks) does h w b = binds (does k w) (for_each ks does) (h k (inl refl) w b) (λ x c. each ks does (λ j i. h j (inr i)) x c)
 
@@ -136,55 +141,70 @@ module _ (setup : Setup) (P : World → Type 0) (kept : IsKept setup P) where
       now = (with_sent setup w b.0 (delivered w number).sent same, kept.marked w (delivered w number).sent same b.1)
 
       by_sent : (o : Option Sent) → sent_at w.sent number ≡ o
-          → TiedTo setup (option_map_or (λ (m : Sent). reaches setup number m.message (delivered w number)) o (Ok (with_line w (NoMessage number))))
-          → BothTo (option_map_or (λ (m : Sent). reaches setup number m.message (delivered w number)) o (Ok (with_line w (NoMessage number))))
+          → TiedTo setup (option_map_or (λ (m : Sent). reaches setup number m.message (delivered w number)) o
+          (Ok (with_line w (NoMessage number))))
+          → BothTo (option_map_or (λ (m : Sent). reaches setup number m.message (delivered w number)) o
+          (Ok (with_line w (NoMessage number))))
       by_sent None e t = (t, kept.told w (NoMessage number) b.1)
       by_sent (Some m) e t =
           let in_sent : In m.message (messages (delivered w number).sent) = subst (In m.message) (sym same) (sent_in w.sent number m e) in
           acts (delivered w number) now (head_of m.message).to number (now.0.tied.receivers m.message in_sent) (Takes m.message) in_sent
           (is_up (node_of setup (delivered w number) (head_of m.message).to).state) t
 
-  stepping : (n s : ℕ) → is_node setup.nodes n ≡ true → is_node setup.workers s ≡ true → (w : World) → Both w → BothTo (does_up setup n (λ x. steps setup n x s) w)
+  stepping : (n s : ℕ) → is_node setup.nodes n ≡ true → is_node setup.workers s ≡ true → (w : World) → Both w
+      → BothTo (does_up setup n (λ x. steps setup n x s) w)
   stepping n s there in_stream w b =
-      acts w b n 0 there (Steps s) in_stream (is_up (node_of setup w n).state) (at_node setup w b.0 n there is_up (λ x. steps setup n x s) (λ up. steps_good setup w b.0 n there up s in_stream))
+      acts w b n 0 there (Steps s) in_stream (is_up (node_of setup w n).state)
+      (at_node setup w b.0 n there is_up (λ x. steps setup n x s) (λ up. steps_good setup w b.0 n there up s in_stream))
 
-  playing : (n s : ℕ) → is_node setup.nodes n ≡ true → is_node setup.workers s ≡ true → (w : World) → Both w → BothTo (changes_up setup n (λ x. plays setup x s) w)
+  playing : (n s : ℕ) → is_node setup.nodes n ≡ true → is_node setup.workers s ≡ true → (w : World) → Both w
+      → BothTo (changes_up setup n (λ x. plays setup x s) w)
   playing n s there in_stream w b =
-      acts w b n 0 there (Plays s) in_stream (is_up (node_of setup w n).state) (at_node setup w b.0 n there is_up (λ x. Ok (quiet (plays setup x s))) (λ up. played setup w b.0 n there s))
+      acts w b n 0 there (Plays s) in_stream (is_up (node_of setup w n).state)
+      (at_node setup w b.0 n there is_up (λ x. Ok (quiet (plays setup x s))) (λ up. played setup w b.0 n there s))
 
-  dropping : (w : World) → Both w → (number : ℕ) (o : Option Sent) → BothTo (option_map_or (λ (m : Sent). Ok (dropped w number)) o (Ok (with_line w (NoMessage number))))
+  dropping : (w : World) → Both w → (number : ℕ) (o : Option Sent)
+      → BothTo (option_map_or (λ (m : Sent). Ok (dropped w number)) o (Ok (with_line w (NoMessage number))))
   dropping w b number None = (with_told setup w b.0 (NoMessage number), kept.told w (NoMessage number) b.1)
   dropping w b number (Some m) =
-      let same : messages (dropped w number).sent ≡ messages w.sent = changed (λ m. record m { dropped = true }) (λ m. refl) w.sent number in
+      let same : messages (dropped w number).sent ≡ messages w.sent =
+      changed (λ m. record m { dropped = true }) (λ m. refl) w.sent number in
       (with_sent setup w b.0 (dropped w number).sent same, kept.marked w (dropped w number).sent same b.1)
 
   event_kept : (e : Event) → EventFits setup.nodes setup.workers e → (w : World) → Both w → BothTo (after_event setup e w)
   event_kept (event.Step n s count) fits w b =
       each (replicate count s) (λ s. does_up setup n (λ x. steps setup n x s))
-      (λ k i. stepping n k (true_node setup.nodes n fits.0) (subst (λ j. is_node setup.workers j ≡ true) (sym (in_replicate count s k i)) (true_node setup.workers s fits.1))) w b
+      (λ k i. stepping n k (true_node setup.nodes n fits.0)
+      (subst (λ j. is_node setup.workers j ≡ true) (sym (in_replicate count s k i)) (true_node setup.workers s fits.1))) w b
   event_kept (event.Flush n s) fits w b =
       let there = true_node setup.nodes n fits.0 in
       let in_stream = true_node setup.workers s fits.1 in
-      acts w b n 0 there (Flushes s) in_stream (is_up (node_of setup w n).state) (at_node setup w b.0 n there is_up (λ x. flushes setup n x s) (λ up. flushes_good setup w b.0 n there up s in_stream))
+      acts w b n 0 there (Flushes s) in_stream (is_up (node_of setup w n).state)
+      (at_node setup w b.0 n there is_up (λ x. flushes setup n x s) (λ up. flushes_good setup w b.0 n there up s in_stream))
   event_kept (event.Idle n s) fits w b =
       let there = true_node setup.nodes n fits.0 in
       let in_stream = true_node setup.workers s fits.1 in
-      acts w b n 0 there (Idles s) in_stream (is_up (node_of setup w n).state) (at_node setup w b.0 n there is_up (λ x. idles setup n x s) (λ up. idles_good setup w b.0 n there up s in_stream))
+      acts w b n 0 there (Idles s) in_stream (is_up (node_of setup w n).state)
+      (at_node setup w b.0 n there is_up (λ x. idles setup n x s) (λ up. idles_good setup w b.0 n there up s in_stream))
   event_kept (event.Dlv number) fits w b = delivering number w b
   event_kept (event.Discard number) fits w b = dropping w b number (sent_at w.sent number)
   event_kept event.All fits w b = each (pending_from 1 w.sent) (delivers setup) (λ k i x c. delivering k x c) w b
   event_kept (event.Elect n) fits w b =
       let there = true_node setup.nodes n fits in
-      acts w b n 0 there Elects tt (is_up (node_of setup w n).state) (at_node setup w b.0 n there is_up (elects setup n) (elected setup w b.0 n there))
+      acts w b n 0 there Elects tt (is_up (node_of setup w n).state)
+      (at_node setup w b.0 n there is_up (elects setup n) (elected setup w b.0 n there))
   event_kept (event.Tick n) fits w b =
       let there = true_node setup.nodes n fits in
-      acts w b n 0 there Ticks tt (is_up (node_of setup w n).state) (at_node setup w b.0 n there is_up (ticks setup n) (λ up. ticked setup w b.0 n there))
+      acts w b n 0 there Ticks tt (is_up (node_of setup w n).state)
+      (at_node setup w b.0 n there is_up (ticks setup n) (λ up. ticked setup w b.0 n there))
   event_kept (event.Crash n) fits w b =
       let there = true_node setup.nodes n fits in
-      acts w b n 0 there Crashes tt (is_up (node_of setup w n).state) (at_node setup w b.0 n there is_up (λ x. Ok (quiet (crashed setup x))) (crashes setup w b.0 n there))
+      acts w b n 0 there Crashes tt (is_up (node_of setup w n).state)
+      (at_node setup w b.0 n there is_up (λ x. Ok (quiet (crashed setup x))) (crashes setup w b.0 n there))
   event_kept (event.Back n) fits w b =
       let there = true_node setup.nodes n fits in
-      acts w b n 0 there Returns tt (is_down (node_of setup w n).state) (at_node setup w b.0 n there is_down (λ x. Ok (quiet (returned x))) (returns setup w b.0 n there))
+      acts w b n 0 there Returns tt (is_down (node_of setup w n).state)
+      (at_node setup w b.0 n there is_down (λ x. Ok (quiet (returned x))) (returns setup w b.0 n there))
   event_kept (event.Lose n) fits w b =
       let there = true_node setup.nodes n fits in
       acts w b n 0 there Loses tt (not (is_lost (node_of setup w n).state))
@@ -197,10 +217,12 @@ module _ (setup : Setup) (P : World → Type 0) (kept : IsKept setup P) where
       (with_told setup w b.0 (NodeShown (block_of setup w n)), kept.told w (NodeShown (block_of setup w n)) b.1)
   event_kept (event.Random seed count) fits w b = b
 
-  events_kept : (events : List Event) → ((e : Event) → In e events → EventFits setup.nodes setup.workers e) → (w : World) → Both w → BothTo (after_events setup events w)
+  events_kept : (events : List Event) → ((e : Event) → In e events → EventFits setup.nodes setup.workers e) → (w : World) → Both w
+      → BothTo (after_events setup events w)
   events_kept [] fits w b = b
   events_kept (e ∷ es) fits w b =
-      binds (after_event setup e w) (after_events setup es) (event_kept e (fits e (inl refl)) w b) (λ x c. events_kept es (λ f i. fits f (inr i)) x c)
+      binds (after_event setup e w) (after_events setup es) (event_kept e (fits e (inl refl)) w b)
+      (λ x c. events_kept es (λ f i. fits f (inr i)) x c)
 
   -- in every run
   pub kept_in_runs : P (new_world setup) → SetupFits setup
@@ -208,4 +230,6 @@ module _ (setup : Setup) (P : World → Type 0) (kept : IsKept setup P) where
   kept_in_runs first sized events fits w is =
       let all_fit = expanded_fit setup.nodes setup.workers events sized.some_nodes sized.some_workers fits in
       subst BothTo is
-      (events_kept (expanded_events setup events) (λ e i. all_in (EventFits setup.nodes setup.workers) (expanded_events setup events) all_fit e i) (new_world setup) (begins setup, first))
+      (events_kept (expanded_events setup events)
+      (λ e i. all_in (EventFits setup.nodes setup.workers) (expanded_events setup events) all_fit e i) (new_world setup)
+      (begins setup, first))

@@ -1,9 +1,10 @@
 -- What holds of the world in every run: each node knows what is chosen, each Known tells so, each history from which a leader released
 -- is one of chosen logs, and the released list begins every list that all of these histories begin.
-use Rattle.std.proofs.Common.{◌≡◌, ℕ, ◌-◌, List, [], ◌∷◌, ◌++◌, map, true, Option, Some, None, option_to_list, option_map, All, Ok, refl, ap, sym, ◌∙◌, subst, inl, inr}
+use Rattle.std.proofs.Common.{◌≡◌, ℕ, ◌-◌, List, [], ◌∷◌, ◌++◌, length, map, true, Option, Some, None, option_to_list, option_map, All, Ok, refl, ap, sym, ◌∙◌, subst, arith, inl, inr}
 use Rattle.std.specs.List.{range_with_len}
 use Rattle.std.proofs.lemmas.List.{map-append}
 use Rattle.std.proofs.lemmas.List.Elements.{filter_map-append}
+use Rattle.std.proofs.lemmas.Bool.{cases_lt}
 use Rattle.rl_base.specs.Lists.{IsPrefix}
 use Rattle.rl_base.proofs.Members.{In, in_prefix, in_suffix, in_split}
 use Rattle.rl_base.proofs.Prefixes.{prefix_self}
@@ -15,7 +16,8 @@ use Rattle.rl_events.specs.Fits.{EventFits}
 use Rattle.rl_events.specs.declared.event.Event.{Event}
 use Rattle.rl_election.specs.World.{Envelope, StreamWorld, no_stream}
 use Rattle.rl_families.specs.Families.{history}
-use Rattle.rl_families.proofs.Rising.{Rises}
+use Rattle.rl_families.specs.Logs.{IsRising}
+use Rattle.rl_families.proofs.Joining.{prefixes_join}
 use Rattle.rl_msg.specs.declared.msg.Msg.{Msg}
 use Rattle.rl_msg.specs.declared.msg.Msg.TheVariants as msg
 use Rattle.rl_nodes.specs.Answers.{Opening, Release, Did}
@@ -24,7 +26,7 @@ use Rattle.rl_nodes.specs.Events.{world_after}
 use Rattle.rl_nodes.specs.Nodes.{Lead, Part, Follows, Stands, Leads, new_node, leading, acknowledged_log}
 use Rattle.rl_nodes.specs.Setups.{Setup, SetupFits, cluster_of}
 use Rattle.rl_nodes.specs.Streams.{envelope_of, envelopes_of, stream_world}
-use Rattle.rl_nodes.specs.World.{World, Sent, Opened, Given, Line, new_world, node_of, new_sent, with_line, term_of, terms_after, released_after}
+use Rattle.rl_nodes.specs.World.{World, Sent, Opened, Given, Line, new_world, node_of, new_sent, with_line, term_of, terms_after, unreleased, released_after}
 use Rattle.rl_nodes.proofs.Deliveries.{between_as}
 use Rattle.rl_nodes.proofs.Growing.{messages}
 use Rattle.rl_nodes.proofs.Runs.{new_nodes}
@@ -34,7 +36,6 @@ use Rattle.rl_safe.proofs.KnownRuns.{Step, after_step, kept_in_runs}
 use Rattle.rl_safe.proofs.KnownGrowth.{ChosenAt, Later, chosen_stays, later, all_streams, counted, acknowledged}
 use Rattle.rl_safe.proofs.KnownMoves.{Says, SaysOf, Gives, GivesOf, Opens, OpensWith, Tells, tells}
 use Rattle.rl_safe.proofs.KnownNodes.{family_of, TellsChosen, telling_stays, NodeOk, keeps_logs, moves_ok, forgotten_ok, node_stays}
-use Rattle.rl_safe.proofs.ReleasedLists.{stamps_of, prefixes_join}
 
 -- a history from which a leader released is that of logs that are chosen at its epoch
 pub record IsGiven (setup : Setup) (v : StreamWorld) (given : Given) : Type 0 where
@@ -52,13 +53,26 @@ pub record AllKnown (setup : Setup) (w : World) : Type 0 where
   pub given : (given : Given) → In given w.gave → IsGiven setup (stream_world setup w) given
   -- each opening list is such a history
   pub opened : (o : Opened) → In o w.openings → In (record { epoch = o.epoch; history = o.items }) w.gave
-  pub released : (whole : List Item) → Rises (stamps_of whole) → AllBegin w.gave whole → IsPrefix w.released whole
+  pub released : (whole : List Item) → IsRising (map (λ x. x.stamp) whole) → AllBegin w.gave whole → IsPrefix w.released whole
+
+-- what was released, and behind it what a history has above, begins what both begin
+released_begins : (whole released history : List Item) → IsRising (map (λ x. x.stamp) whole) → IsPrefix released whole
+    → IsPrefix history whole
+    → IsPrefix (released ++ unreleased released history) whole
+released_begins whole released history rising p q =
+    let k = prefixes_join whole released history rising p q in
+    elim (cases_lt (length released) (length history)) [
+      | inl shorter ↦ subst (λ zs. IsPrefix zs whole) (sym (k.second_is (omega (arith, shorter)))) q
+      | inr longer ↦ subst (λ zs. IsPrefix zs whole) (sym (k.first_is longer)) p
+    ]
 
 -- ---- the first world ----
 
 begins_known : (setup : Setup) → AllKnown setup (new_world setup)
 begins_known setup = record {
-  nodes = λ a. subst (NodeOk setup (stream_world setup (new_world setup))) (sym (new_nodes setup a)) (forgotten_ok setup (stream_world setup (new_world setup)) (new_node setup) refl refl);
+  nodes =
+      λ a. subst (NodeOk setup (stream_world setup (new_world setup))) (sym (new_nodes setup a))
+      (forgotten_ok setup (stream_world setup (new_world setup)) (new_node setup) refl refl);
   telling = λ m i. absurd i;
   given = λ given i. absurd i;
   opened = λ o i. absurd i;
@@ -67,14 +81,16 @@ begins_known setup = record {
 
 -- ---- other marks, and lines ----
 
-given_stays : (setup : Setup) (v after : StreamWorld) → Later (cluster_of setup) v after → (given : Given) → IsGiven setup v given → IsGiven setup after given
+given_stays : (setup : Setup) (v after : StreamWorld) → Later (cluster_of setup) v after → (given : Given) → IsGiven setup v given
+    → IsGiven setup after given
 given_stays setup v after later given k = record {
   log = k.log;
   each = λ s there. chosen_stays (cluster_of setup) v after later given.epoch s (k.log s) there (k.each s there);
   is = k.is;
 }
 
-marked_known : (setup : Setup) (w : World) (sent : List Sent) → messages sent ≡ messages w.sent → AllKnown setup w → AllKnown setup (record w { sent = sent })
+marked_known : (setup : Setup) (w : World) (sent : List Sent) → messages sent ≡ messages w.sent → AllKnown setup w
+    → AllKnown setup (record w { sent = sent })
 marked_known setup w sent same k =
     let between_same : between w.sent ≡ between sent = between_as w.sent ∙ ap envelopes_of (sym same) ∙ sym (between_as sent) in
     let on : Later (cluster_of setup) (stream_world setup w) (stream_world setup (record w { sent = sent })) = record {
@@ -82,9 +98,13 @@ marked_known setup w sent same k =
       logs = λ e t is s there. (t, is, prefix_self _);
     } in
     record {
-      nodes = λ a. node_stays setup (stream_world setup w) (stream_world setup (record w { sent = sent })) on (node_of setup w a) (k.nodes a);
-      telling = λ m i. telling_stays setup (stream_world setup w) (stream_world setup (record w { sent = sent })) on m (k.telling m (subst (In m) same i));
-      given = λ given i. given_stays setup (stream_world setup w) (stream_world setup (record w { sent = sent })) on given (k.given given i);
+      nodes =
+          λ a. node_stays setup (stream_world setup w) (stream_world setup (record w { sent = sent })) on (node_of setup w a) (k.nodes a);
+      telling =
+          λ m i. telling_stays setup (stream_world setup w) (stream_world setup (record w { sent = sent })) on m
+          (k.telling m (subst (In m) same i));
+      given =
+          λ given i. given_stays setup (stream_world setup w) (stream_world setup (record w { sent = sent })) on given (k.given given i);
       opened = k.opened;
       released = k.released;
     }
@@ -122,14 +142,16 @@ module _ (setup : Setup) (sized : SetupFits setup) (w : World) (r : TiedRun setu
   nodes_known a =
       by_set (NodeOk setup after) w.nodes (step.node - 1) (a - 1) did.node (new_node setup)
       (λ same. node_stays setup v after on did.node
-      (moves_ok setup v (messages w.sent) (node_of setup w step.node) did.node (k.nodes step.node) (keeps_logs setup w r step.node step.there) k.telling now.moves))
+      (moves_ok setup v (messages w.sent) (node_of setup w step.node) did.node (k.nodes step.node)
+      (keeps_logs setup w r step.node step.there) k.telling now.moves))
       (node_stays setup v after on (node_of setup w a) (k.nodes a))
 
   -- the term of an epoch that the node leads is what it has
   led : (lead : Lead) → did.node.part ≡ Leads lead → x.terms lead.epoch ≡ Some (term_of lead)
   led lead is = ap (λ part. terms_after w.terms part lead.epoch) is ∙ updated_same w.terms lead.epoch (Some (term_of lead))
 
-  said_by : (part : Part) → did.node.part ≡ part → (e s len : ℕ) → SaysOf setup part e s len → (from to : ℕ) → TellsChosen setup after (msg.Known from to e s len)
+  said_by : (part : Part) → did.node.part ≡ part → (e s len : ℕ) → SaysOf setup part e s len → (from to : ℕ)
+      → TellsChosen setup after (msg.Known from to e s len)
   said_by Follows is e s len h from to = absurd h
   said_by (Stands c) is e s len h from to = absurd h
   said_by (Leads lead) is e s len h from to =
@@ -151,20 +173,26 @@ module _ (setup : Setup) (sized : SetupFits setup) (w : World) (r : TiedRun setu
 
   all_telling : (m : Msg) → In m (messages x.sent) → TellsChosen setup after m
   all_telling m i =
-      elim (in_split (messages w.sent) (messages (map new_sent did.sends)) m (subst (In m) (map-append (λ (s : Sent). s.message) w.sent (map new_sent did.sends)) i)) [
+      elim
+      (in_split (messages w.sent) (messages (map new_sent did.sends)) m
+      (subst (In m) (map-append (λ (s : Sent). s.message) w.sent (map new_sent did.sends)) i)) [
         | inl j ↦ telling_stays setup v after on m (k.telling m j)
         | inr j ↦ said m (now.says m (subst (In m) (new_messages did.sends) j))
       ]
 
   -- the history from which it releases
-  given_by : (part : Part) → did.node.part ≡ part → (release : Release) → GivesOf part release → IsGiven setup after (record { epoch = release.epoch; history = release.history })
+  given_by : (part : Part) → did.node.part ≡ part → (release : Release) → GivesOf part release
+      → IsGiven setup after (record { epoch = release.epoch; history = release.history })
   given_by Follows is release h = absurd h
   given_by (Stands c) is release h = absurd h
   given_by (Leads lead) is release h = record {
     log = λ s. acknowledged_log (leading lead s);
-    each = λ s there. subst (λ e. ChosenAt (cluster_of setup) after e s (acknowledged_log (leading lead s))) (sym h.0) (acknowledged setup sized x q lead (led lead is) s there);
+    each =
+        λ s there. subst (λ e. ChosenAt (cluster_of setup) after e s (acknowledged_log (leading lead s))) (sym h.0)
+        (acknowledged setup sized x q lead (led lead is) s there);
     is = h.1 ∙ ap history (map_places (λ stream. batches_of (acknowledged_log stream)) no_stream lead.streams 1
-        ∙ ap (λ n. map (λ s. batches_of (acknowledged_log (leading lead s))) (range_with_len 1 n)) (all_streams setup sized x q lead (led lead is)));
+        ∙ ap (λ n. map (λ s. batches_of (acknowledged_log (leading lead s))) (range_with_len 1 n))
+        (all_streams setup sized x q lead (led lead is)));
   }
 
   abbrev as_given : Release → Given
@@ -217,10 +245,11 @@ module _ (setup : Setup) (sized : SetupFits setup) (w : World) (r : TiedRun setu
   ]
 
   -- what is released
-  released_on : (release : Option Release) (whole : List Item) → Rises (stamps_of whole) → AllBegin (w.gave ++ given_now release) whole → IsPrefix (released_after w.released release) whole
+  released_on : (release : Option Release) (whole : List Item) → IsRising (map (λ x. x.stamp) whole)
+      → AllBegin (w.gave ++ given_now release) whole → IsPrefix (released_after w.released release) whole
   released_on None whole rise begin = k.released whole rise (λ given i. begin given (in_prefix w.gave [] given i))
   released_on (Some release) whole rise begin =
-      prefixes_join whole w.released release.history rise
+      released_begins whole w.released release.history rise
       (k.released whole rise (λ given i. begin given (in_prefix w.gave (given_now (Some release)) given i)))
       (begin (as_given release) (in_suffix w.gave (given_now (Some release)) (as_given release) (inl refl)))
 
@@ -235,7 +264,8 @@ module _ (setup : Setup) (sized : SetupFits setup) (w : World) (r : TiedRun setu
 
 -- ---- every run ----
 
-pub all_known : (setup : Setup) → SetupFits setup → (events : List Event) → All (EventFits setup.nodes setup.workers) events → (w : World) → world_after setup events ≡ Ok w
+pub all_known : (setup : Setup) → SetupFits setup → (events : List Event) → All (EventFits setup.nodes setup.workers) events → (w : World)
+    → world_after setup events ≡ Ok w
     → TiedRun setup w × AllKnown setup w
 all_known setup sized events fits w is =
     kept_in_runs setup (AllKnown setup)
