@@ -6,6 +6,7 @@
 -- Streams, Extending: a log told by leaders is, epoch by epoch, a part of what each leader decided; so a
 -- history has the members of an opening list and of what its epoch decided first, and no others.
 -- Leading: what an epoch has in such a log. SerialHistories: one epoch more behind its opening list.
+-- Joining: two prefixes of one list join to the longer one.
 pub mod Sorting
 pub mod Logs
 pub mod Rising
@@ -16,3 +17,4 @@ pub mod StampedLogs
 pub mod Extending
 pub mod Leading
 pub mod SerialHistories
+pub mod Joining

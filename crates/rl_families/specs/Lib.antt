@@ -4,4 +4,5 @@ pub mod Families
 pub mod Streams
 pub mod Leaders
 pub mod LeadersLogs
+pub mod Joining
 pub mod Laws

@@ -1,5 +1,6 @@
 //! Laws on the histories of all families: the contract of each function is the law.
 
+ghost use Rattle.rl_families.specs.Joining.{PrefixesJoin};
 ghost use Rattle.rl_families.specs.Laws.{HistoriesNest, WatermarkCuts, HistoriesGoOn, LeadersLogsRise, HistoriesAreSerial};
 
 /// Where each log of a family is a prefix of a log of a larger one, along whose logs the stamps
@@ -29,4 +30,10 @@ pub fn leaders_logs_rise()
 /// requests from the first on.
 pub fn histories_are_serial()
     ensures { HistoriesAreSerial }
+{}
+
+/// Of two prefixes of a list along which the stamps rise, the first, and behind it what the second has above the
+/// first's last stamp, is the longer one. So a released list grows as the histories do from which it is released.
+pub fn prefixes_join()
+    ensures { PrefixesJoin }
 {}

@@ -111,7 +111,7 @@ nodes_change_as_streams = record { elects = elects_as; crashes = crashes_as; ret
 
 -- ---- proposals ----
 
-first_proposed : (stream : Leading) (b : List ℕ) → stream.initial_len ≤ length stream.log → initial_log_of (proposed stream b) ≡ initial_log_of stream
+pub first_proposed : (stream : Leading) (b : List ℕ) → stream.initial_len ≤ length stream.log → initial_log_of (proposed stream b) ≡ initial_log_of stream
 first_proposed stream b short = take-append-le stream.initial_len stream.log (b ∷ []) short
 
 proposing : (setup : Setup) (w : StreamWorld) (a : ℕ) (x : NodeState) (lead : Lead) → IsInStreams w a (record x { part = Leads lead })

@@ -254,7 +254,7 @@ envelope_to (msg.Accept from to e s slot batch) n is = ap (λ (k : Envelope). k.
 envelope_to (msg.Ack from to e s len) n is = ap (λ (k : Envelope). k.to) (sym (some_same _ n is))
 envelope_to (msg.Known from to e s len) n is = absurd (subst HasNothing (sym is) tt)
 
-not_false : (b : Bool) → not b ≡ false → b ≡ true
+pub not_false : (b : Bool) → not b ≡ false → b ≡ true
 not_false true h = refl
 not_false false h = absurd (true≢false h)
 
@@ -309,7 +309,7 @@ module _ (setup : Setup) (w : World) (r : TiedRun setup w) (number : ℕ) (m : M
       }))
       (subst (Reaches setup.nodes) takes_is (reach_takes setup at here m (from_there setup at here m ok)))
 
-  by_envelope : (o : Option Envelope) → envelope_of m ≡ o → is_up here.state ≡ true → (did : Did) → receives setup at here m ≡ Ok did
+  pub by_envelope : (o : Option Envelope) → envelope_of m ≡ o → is_up here.state ≡ true → (did : Did) → receives setup at here m ≡ Ok did
       → TiedRun setup (after_doing w at number did)
   by_envelope None is up did receives_is =
       of_known setup w r at number there m is did (taken_of (is_bad setup at here m) (takes setup at here m) did receives_is).1
@@ -324,7 +324,7 @@ module _ (setup : Setup) (w : World) (r : TiedRun setup w) (number : ℕ) (m : M
   pub reached : TiedTo setup (reaches setup number m w)
   reached = reached_if (is_up here.state) refl
 
-sent_in : (sent : List Sent) (number : ℕ) (m : Sent) → sent_at sent number ≡ Some m → In m.message (messages sent)
+pub sent_in : (sent : List Sent) (number : ℕ) (m : Sent) → sent_at sent number ≡ Some m → In m.message (messages sent)
 sent_in sent zero m e = absurd (subst HasSome (sym e) tt)
 sent_in sent (suc i) m e = in_map (λ (m : Sent). m.message) m sent (got_in sent i m e)
 

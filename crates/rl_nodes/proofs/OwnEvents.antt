@@ -48,7 +48,7 @@ use Rattle.rl_msg.specs.Parts.{head_of}
 use Rattle.rl_nodes.proofs.Tied.{Owns, owns, TiedRun, goes_on, stands_still, in_streams}
 
 -- the initial logs of a leader's term
-first_of : (xs : List Leading) (i : ℕ) → slice_index_or (map initial_log_of xs) i [] ≡ initial_log_of (slice_index_or xs i world.no_stream)
+pub first_of : (xs : List Leading) (i : ℕ) → slice_index_or (map initial_log_of xs) i [] ≡ initial_log_of (slice_index_or xs i world.no_stream)
 first_of [] i = refl
 first_of (x ∷ xs) zero = refl
 first_of (x ∷ xs) (suc i) = first_of xs i

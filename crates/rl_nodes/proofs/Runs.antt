@@ -30,15 +30,15 @@ use Rattle.rl_nodes.proofs.OwnEvents.{at_node, elected, crashes, returns, loses,
 
 -- ---- the beginning ----
 
-same_in : {A : Type 0} (n : ℕ) (x : A) (i : ℕ) → get_or (replicate n x) i x ≡ x
+pub same_in : {A : Type 0} (n : ℕ) (x : A) (i : ℕ) → get_or (replicate n x) i x ≡ x
 same_in zero x i = refl
 same_in (suc n) x zero = refl
 same_in (suc n) x (suc i) = same_in n x i
 
-new_nodes : (setup : Setup) (a : ℕ) → node_of setup (new_world setup) a ≡ new_node setup
+pub new_nodes : (setup : Setup) (a : ℕ) → node_of setup (new_world setup) a ≡ new_node setup
 new_nodes setup a = same_in setup.nodes (new_node setup) (a - 1)
 
-begins : (setup : Setup) → TiedRun setup (new_world setup)
+pub begins : (setup : Setup) → TiedRun setup (new_world setup)
 begins setup = record {
   events = [];
   tied = record {
@@ -64,13 +64,13 @@ each setup [] does h w r = r
 each setup (k ∷ ks) does h w r =
     binds setup (does k w) (for_each ks does) (h k (inl refl) w r) (λ x t. each setup ks does (λ j i. h j (inr i)) x t)
 
-in_replicate : (n s k : ℕ) → In k (replicate n s) → k ≡ s
+pub in_replicate : (n s k : ℕ) → In k (replicate n s) → k ≡ s
 in_replicate zero s k i = absurd i
 in_replicate (suc n) s k i = elim i [ inl e ↦ e | inr j ↦ in_replicate n s k j ]
 
 -- ---- events ----
 
-true_node : (n k : ℕ) → IsOneOf n k → is_node n k ≡ true
+pub true_node : (n k : ℕ) → IsOneOf n k → is_node n k ≡ true
 true_node n k h = both_true (nat_le 1 k) (nat_le k n) (le_true 1 k h.0) (le_true k n h.1)
   where
     le_true : (a b : ℕ) → a ≤ b → nat_le a b ≡ true

@@ -86,7 +86,7 @@ module _ (setup : Setup) (w : World) (sw : StreamWorld) (t : Tied setup w sw) (a
       (λ e. other (other_place a b range.0 (by_node setup.nodes b in_range).0 e))
 
   -- what holds of every node
-  by_place : (P : ℕ → NodeState → Type 0) → P a did.node
+  pub by_place : (P : ℕ → NodeState → Type 0) → P a did.node
       → ((b : ℕ) → is_node setup.nodes b ≡ true → b ≢ a → P b (node_of setup w b))
       → (b : ℕ) → is_node setup.nodes b ≡ true → P b (node_of setup later b)
   by_place P here others b in_range = by_updated {A = ℕ} (λ y. P b (node_of setup later b)) (λ j. 0) a 0 b
