@@ -1,5 +1,6 @@
 -- One read more.
 use Rattle.std.proofs.Common.{◌≡◌, ◌≢◌, ℕ, ◌+◌, ◌*◌, ◌<◌, Bool, true, false, true≢false, not, is_some, cond, List, [], ◌∷◌, ◌++◌, length, sum, Option, Some, None, refl, sym, ap, ◌∙◌, subst, ⊎_elim}
+use Rattle.std.proofs.lemmas.List.{length-map}
 use Rattle.std.specs.Prelude.{IfSome}
 use Rattle.std.specs.Cmp.{tied_itself}
 use Rattle.std.specs.FinMap as finite
@@ -18,7 +19,6 @@ use Rattle.rl_txn.specs.Eval.{is_new}
 use Rattle.rl_txn.specs.Run.{Overlay}
 use Rattle.rl_txn.proofs.RowSets.{places_total, same_place}
 use Rattle.rl_tables.proofs.Places.{place_of_record}
-use Rattle.rl_worker.proofs.Settings.{sizes_length}
 use Rattle.rl_store.specs.declared.view.Read.{Read}
 use Rattle.rl_store.specs.declared.view.View.{View}
 use Rattle.rl_store.specs.Entries.{In, RowOf}
@@ -29,7 +29,7 @@ use Rattle.rl_occ.specs.declared.sets.Seen.{Seen}
 use Rattle.rl_occ.specs.Reading.{HasRead, OnlyReads, seen_of}
 
 pub placed : (tables : List Table) (t k : ℕ) → t < length tables → k < size_of tables t → place_of (sizes_of tables) (record_of (sizes_of tables) t k) ≡ (t, k)
-placed tables t k l m = place_of_record (sizes_of tables) t k (subst (λ n. t < n) (sym (sizes_length tables)) l) (subst (λ n. k < n) (sym (size_at tables t)) m)
+placed tables t k l m = place_of_record (sizes_of tables) t k (subst (λ n. t < n) (sym (length-map tables (λ (t : Table). t.size))) l) (subst (λ n. k < n) (sym (size_at tables t)) m)
 
 same : (o : Ordering) → is_eq o ≡ true → o ≡ Equal
 same Less e = absurd (true≢false (sym e))

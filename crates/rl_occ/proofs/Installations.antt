@@ -1,6 +1,6 @@
 -- Writes that are installed one after another.
 use Rattle.std.proofs.Common.{◌≡◌, ◌≢◌, ℕ, zero, suc, ◌+◌, ◌<◌, ◌≤◌, List, [], ◌∷◌, ◌++◌, map, take, drop, length, refl, sym, ap, ◌∙◌, subst, arith}
-use Rattle.std.proofs.lemmas.List.{take_more}
+use Rattle.std.proofs.lemmas.List.{take_more, length-map}
 use Rattle.std.specs.Prelude.{Some, None}
 use mathlib.Core.List.{map-append}
 use mathlib.Core.Option.{some, some-ne-none}
@@ -23,7 +23,6 @@ use Rattle.rl_occ.specs.Committing.{IsToInstall, all_closed}
 use Rattle.rl_occ.specs.Fits.{AreWrites, rec_of}
 use Rattle.rl_occ.specs.Outcomes.{write_at}
 use Rattle.rl_occ.proofs.Places.{same_place}
-use Rattle.rl_occ.proofs.Validations.{length_map}
 
 pub row_fits : (columns : ℕ) (row : RowOf) → RowHas columns row → FitsColumns columns row
 row_fits columns None h = tt
@@ -96,5 +95,5 @@ module _ (tables : List Table) (v : View) (stamp : ℕ) (writes : List txn.Write
 
   pub all_are : (k : ℕ) → length writes ≡ k → first_closed tables v writes k ≡ all_closed tables v writes
   all_are k e =
-      let n : length v.attempt.held ≡ k = sym (length_map held_rec v.attempt.held) ∙ ap length h.held ∙ length_map (rec_of tables) writes ∙ e in
+      let n : length v.attempt.held ≡ k = sym (length-map v.attempt.held held_rec) ∙ ap length h.held ∙ length-map writes (rec_of tables) ∙ e in
       λ i. record v { attempt = record v.attempt { held = drop_all k v.attempt.held (let z = n in omega arith) i; closed = map (write_at tables) (take_all k writes (let z = e in omega arith) i) } }

@@ -1,6 +1,6 @@
 -- The locks of the writes of a transaction.
 use Rattle.std.proofs.Common.{◌≡◌, ℕ, ◌+◌, ◌<◌, List, [], ◌∷◌, ◌++◌, map, take, length, slice_index, sum, sym, ap, ◌∙◌, subst, arith}
-use Rattle.std.proofs.lemmas.List.{take_more}
+use Rattle.std.proofs.lemmas.List.{take_more, length-map}
 use Rattle.std.specs.Prelude.{Bool, true, false, MatchBool}
 use mathlib.Core.List.{map-append}
 use mathlib.Core.Option.{some}
@@ -10,7 +10,6 @@ use Rattle.rl_tables.specs.Numbers.{sizes_of, record_of}
 use Rattle.rl_tables.proofs.Sizes.{size_at, sum_before}
 use Rattle.rl_txn.specs.Fits.{WriteFits}
 use Rattle.rl_txn.specs.declared.write.Write.{Write}
-use Rattle.rl_worker.proofs.Settings.{sizes_length}
 use Rattle.rl_store.specs.declared.view.Held.{Held}
 use Rattle.rl_store.specs.declared.view.View.{View}
 use Rattle.rl_store.specs.Entries.{In, Holds}
@@ -26,7 +25,7 @@ use Rattle.rl_occ.proofs.Places.{of_map, of_take, same_place}
 use Rattle.rl_occ.proofs.Validations.{short}
 
 pub number_below : (tables : List Table) (t k : ℕ) → t < length tables → k < size_of tables t → record_of (sizes_of tables) t k < sum (sizes_of tables)
-number_below tables t k l m = let a = sum_before (sizes_of tables) t (subst (λ n. t < n) (sym (sizes_length tables)) l) in let e = size_at tables t in omega arith
+number_below tables t k l m = let a = sum_before (sizes_of tables) t (subst (λ n. t < n) (sym (length-map tables (λ (t : Table). t.size))) l) in let e = size_at tables t in omega arith
 
 module _ (tables : List Table) (writes : List Write) (h : AreWrites tables writes) (n : ℕ) (locks : List Lock) (are : map lock_rec locks ≡ map (rec_of tables) (take n writes)) where
   -- the write of a lock
@@ -77,7 +76,7 @@ match_holds false v locks r e m = λ h. m (lock_of_hold v locks r e h)
 
 -- a write names a record of the layout
 pub write_table : (tables : List Table) (layout : List ℕ) (w : Write) → layout ≡ sizes_of tables → WriteFits tables w → w.table < length layout
-write_table tables layout w e f = subst (λ (l : List ℕ). w.table < length l) (sym e) (subst (λ n. w.table < n) (sym (sizes_length tables)) f.0)
+write_table tables layout w e f = subst (λ (l : List ℕ). w.table < length l) (sym e) (subst (λ n. w.table < n) (sym (length-map tables (λ (t : Table). t.size))) f.0)
 
 pub write_key : (tables : List Table) (layout : List ℕ) (w : Write) → layout ≡ sizes_of tables → WriteFits tables w → w.key < slice_index layout w.table
 write_key tables layout w e f = subst (λ (l : List ℕ). w.key < slice_index l w.table) (sym e) (subst (λ n. w.key < n) (sym (size_at tables w.table)) f.1)

@@ -1,6 +1,6 @@
 -- Reads that are validated one after another.
 use Rattle.std.proofs.Common.{◌≡◌, ℕ, zero, suc, ◌+◌, ◌≤◌, Bool, true, false, true≢false, List, [], ◌∷◌, ◌++◌, map, take, length, refl, sym, ap, ◌∙◌, subst, arith}
-use Rattle.std.proofs.lemmas.List.{take_more}
+use Rattle.std.proofs.lemmas.List.{take_more, length-map}
 use Rattle.std.specs.Prelude.{MatchBool, Result, Ok, Err, IfErr}
 use mathlib.Core.List.{map-append}
 use mathlib.Core.Option.{some}
@@ -30,10 +30,6 @@ pub short : {A : Type 0} (n : ℕ) (xs : List A) → length (take n xs) ≤ n
 short zero xs = omega arith
 short (suc n) [] = omega arith
 short (suc n) (x ∷ xs) = let l = short n xs in omega arith
-
-pub length_map : {A B : Type 0} (f : A → B) (xs : List A) → length (map f xs) ≡ length xs
-length_map f [] = refl
-length_map f (x ∷ xs) = ap suc (length_map f xs)
 
 -- an attempt that isn't decided goes on
 pub undecided_goes_on : (v : View) → is_decided v.attempt ≡ false → settled v ≡ v
@@ -86,7 +82,7 @@ module _ (v : View) (words : List Seen) (locks : List Lock) (h : IsToValidate v 
 
   pub all_are : (k : ℕ) → length words ≡ k → first_valid v k ≡ all_valid v
   all_are k e =
-      let n : length v.attempt.reads ≡ k = sym (length_map seen_of v.attempt.reads) ∙ ap length h.seen ∙ e in
+      let n : length v.attempt.reads ≡ k = sym (length-map v.attempt.reads seen_of) ∙ ap length h.seen ∙ e in
       λ i. record v { attempt = record v.attempt { validated = map read_rec (take_all k v.attempt.reads (let z = n in omega arith) i) } }
 
 -- a refusal after the draw

@@ -24,8 +24,10 @@ use rl_base::stamp::Stamp;
 use rl_store::pass::Pass;
 use rl_store::spent::DrawStop;
 use rl_store::store::Store;
+use rl_tables::laws::records_and_places;
 use rl_tables::layout::Layout;
 use rl_txn::eval::Eval;
+use rl_txn::laws::answers;
 use rl_txn::op::Txn;
 use rl_txn::write::{Reply, Writes};
 use rl_value::schema::Schema;
@@ -128,6 +130,9 @@ impl<'a> Attempt<'a> {
         ensures refused { IfErr result (λ refusal. self.new ≡ gone_on self.old (refused self.old.view (why refusal)) Phase.Stopped) }
         ensures cause { IfErr result RefusesSome }
     {
+        // For the proof alone: the laws of transactions and of record numbers.
+        answers();
+        records_and_places();
         let Work::Begun(mut eval) = mem::replace(&mut self.work, Work::Stopped) else {
             unreachable!()
         };

@@ -19,7 +19,7 @@ invariant_of-self-2 c =
       (
         told.read.only,
         has_seen tables c.run_on.new.pass.view (rows_given eval) c.run_on.new.seen.items told.read,
-        has_run tables txn eval c.run_on.new.pass.view c.run_on.new.seen.items c.finish-reply.result.0 c.finish-reply.result.1 fits.txn_fits told.eval told.ended told.read (λ rows has_. c.finish-reply.ensures tables txn rows told.eval has_),
+        has_run tables c.answers.ensures.fit c.records_and_places.ensures.record_of_key txn eval c.run_on.new.pass.view c.run_on.new.seen.items c.finish-reply.result.0 c.finish-reply.result.1 fits.txn_fits told.read (λ rows has_. c.finish-reply.ensures tables txn rows told.eval has_),
         h.3,
         h.4,
       ),
