@@ -30,12 +30,12 @@ use Rattle.rl_nodes.proofs.OwnEvents.{at_node, elected, crashes, returns, loses,
 
 -- ---- the beginning ----
 
-same_in : {A : Type 0} (n : ℕ) (x : A) (i : ℕ) → get_or (replicate n x) i x ≡ x
+pub same_in : {A : Type 0} (n : ℕ) (x : A) (i : ℕ) → get_or (replicate n x) i x ≡ x
 same_in zero x i = refl
 same_in (suc n) x zero = refl
 same_in (suc n) x (suc i) = same_in n x i
 
-new_nodes : (setup : Setup) (a : ℕ) → node_of setup (new_world setup) a ≡ new_node setup
+pub new_nodes : (setup : Setup) (a : ℕ) → node_of setup (new_world setup) a ≡ new_node setup
 new_nodes setup a = same_in setup.nodes (new_node setup) (a - 1)
 
 pub begins : (setup : Setup) → TiedRun setup (new_world setup)

@@ -1,5 +1,5 @@
 -- The leaders of all epochs of a run, and how the logs, opening lists and refusals of its world stand to them.
-use Rattle.std.specs.Prelude.{◌≡◌, ℕ, ◌<◌, Contains, IsTrue}
+use Rattle.std.specs.Prelude.{◌≡◌, ℕ, Contains, IsTrue}
 use Rattle.rl_paxos.specs.Logs as bytes
 use Rattle.rl_election.specs.Chosen.{IsInitialLog, IsLeaderLog}
 use Rattle.rl_families.specs.Leaders.{Leaders, AreLeaders, initial_log, leader_log, opening_list}

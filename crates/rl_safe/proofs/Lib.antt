@@ -1,0 +1,23 @@
+-- How each run is shown to be one of leaders. Below: the laws of the crates below, as their functions ensure them. Drives: what stays
+-- when a node does something holds of each world of a run. Accounts: the witness. By epoch it has the turns of the leader's workers and
+-- what is pending; the opening list is the history of the initial logs, and the core is that after these turns. There too is what holds
+-- between any two events: along a stream, behind its initial log, and then among what is pending, are the worker's ended items in their
+-- order, and the stamps that it made, and then the end mark or none.
+-- CoreTurns: what one turn does to a core, by worker. Sayings: what a stream says stays true through turns, proposals and marks.
+-- Encodings: what a leader proposes is read back. Origins: each batch of a log was proposed by the leader of some epoch. Fits: so each
+-- core opens with rows that fit and stamps of earlier epochs, epoch after epoch. Leads: what a leader does keeps what holds of it.
+-- Told: the accounts are leaders as the laws of families ask, and the logs are theirs. Moves: what a node does keeps what holds of all
+-- epochs and nodes. Led: so each run is led.
+pub mod Accounts
+pub mod Below
+pub mod CoreTurns
+pub mod Drives
+pub mod Encodings
+pub mod Fits
+pub mod Leads
+pub mod Led
+pub mod Listed
+pub mod Moves
+pub mod Origins
+pub mod Sayings
+pub mod Told
