@@ -67,7 +67,7 @@ pub record Tied (setup : Setup) (w : World) (sw : StreamWorld) : Type 0 where
 less_one : (a nodes size : ℕ) → 1 ≤ a → a ≤ nodes → size ≡ nodes → a - 1 < size
 less_one a nodes size low high e = omega arith
 
-other_place : (a b : ℕ) → 1 ≤ a → 1 ≤ b → b - 1 ≡ a - 1 → b ≡ a
+pub other_place : (a b : ℕ) → 1 ≤ a → 1 ≤ b → b - 1 ≡ a - 1 → b ≡ a
 other_place a b p q e = omega arith
 
 module _ (setup : Setup) (w : World) (sw : StreamWorld) (t : Tied setup w sw) (a number : ℕ) (there : is_node setup.nodes a ≡ true) (did : Did) where

@@ -1,7 +1,36 @@
 //! Laws of every run: the contract of each function is the law.
 
 ghost use Rattle.rl_nodes.specs.Laws.{EveryRunIsSafe};
-ghost use Rattle.rl_safe.specs.Laws.{LedRunsAreSafe};
+ghost use Rattle.rl_safe.specs.Laws.{RunsAreLed, LedRunsAreSafe};
+
+use rl_batch::laws as batches;
+use rl_election::laws as streams;
+use rl_txn::laws as transactions;
+use rl_worker::laws as workers;
+
+/// Every run is safe: the released transactions in the order of their stamps are a prefix of one serial history, which each
+/// node's known history and each opening list begin too; a replica at its watermark has the rows that its known history
+/// leaves; each opening list has all that leaders of earlier epochs release; and each refused attempt has a true cause.
+pub fn every_run_is_safe()
+    ensures { EveryRunIsSafe }
+{
+    runs_are_led();
+    led_runs_are_safe();
+}
+
+/// The logs of a run's leaders are as the laws of families ask.
+pub fn runs_are_led()
+    ensures { RunsAreLed }
+{
+    batches::reads_back();
+    streams::leader_logs();
+    transactions::rows();
+    transactions::words();
+    workers::core_serial();
+    workers::one_step();
+    workers::ranges();
+    workers::opening_stamps();
+}
 
 /// Where the logs of each run's leaders are as the laws of families ask, every run is safe.
 pub fn led_runs_are_safe()
