@@ -12,8 +12,10 @@ use Rattle.rl_families.specs.Logs.{stamps_in_batch, stamps_along, IsRising, firs
 use Rattle.rl_families.specs.Families.{AllRise}
 use Rattle.rl_base.proofs.Members.{In}
 use Rattle.rl_families.proofs.Logs.{stamps_along-append}
-use Rattle.rl_families.proofs.Rising.{Rises, rises_from, from_rises, above_in, rises_append, last_is, below_last}
+use Rattle.rl_families.proofs.Rising.{Above, Rises, rises_from, from_rises, above_in, above_append, rises_append, last_is, below_last}
 use Rattle.rl_cut.specs.Refusals.{order_refusal}
+use Rattle.rl_cut.specs.Kept.{AreLastOf}
+use Rattle.rl_cut.proofs.ByEpoch.{Climbs, Later}
 
 first_is : (s : Stamp) (ss : List Stamp) → Rises (s ∷ ss) → (t : Stamp) → In t (s ∷ ss) → (t ≡ s) ⊎ IsBelow s t
 first_is s ss r t i = elim i [ inl e ↦ inl e | inr j ↦ inr (above_in s ss t r.0 j) ]
@@ -40,3 +42,16 @@ extended_rises family i batch l a b h =
     let all : Rises (stamps_along log ++ stamps_in_batch batch) = joins (stamps_along log) (stamps_in_batch batch) (rises_from (stamps_along log) (All-get_or (λ x. IsRising (stamps_along x)) family i [] l a)) (rises_from (stamps_in_batch batch) b) h in
     let same : stamps_along (log ++ batch ∷ []) ≡ stamps_along log ++ stamps_in_batch batch = stamps_along-append log (batch ∷ []) ∙ ap (λ z. stamps_along log ++ z) (append-nil (stamps_in_batch batch)) in
     All-set (λ x. IsRising (stamps_along x)) family i (log ++ batch ∷ []) (from_rises (stamps_along (log ++ batch ∷ [])) (subst Rises (sym same) all)) a
+
+-- the last stamps of its log and then those of the batch rise
+pub noted_from : (family : List (List Batch)) (reached : List (List Stamp)) (i : ℕ) (batch : Batch) → i < length family → AreLastOf (stamps_along (get_or family i [])) (get_or reached i []) → AllRise family → Climbs (get_or reached i []) → IsRising (stamps_in_batch batch)
+    → order_refusal (last_stamp (stamps_along (get_or family i []))) (first_stamp (stamps_in_batch batch)) ≡ None → Rises (get_or reached i [] ++ stamps_in_batch batch)
+noted_from family reached i batch l h a c b free =
+    joins (get_or reached i []) (stamps_in_batch batch) (climbs_rise (get_or reached i []) c) (rises_from (stamps_in_batch batch) b) (ap (λ o. order_refusal o (first_stamp (stamps_in_batch batch))) h.last ∙ free)
+  where
+    above_later : (s : Stamp) (ss : List Stamp) → Later s.epoch ss → Above s ss
+    above_later s ss h = above_append s [] ss tt (λ u i. inl (h u i))
+
+    climbs_rise : (ss : List Stamp) → Climbs ss → Rises ss
+    climbs_rise [] c = tt
+    climbs_rise (s ∷ ss) c = (above_later s ss c.0, climbs_rise ss c.1)

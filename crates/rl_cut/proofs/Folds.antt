@@ -1,19 +1,12 @@
 -- What is gathered along a list, one element further.
-use Rattle.std.proofs.Common.{◌≡◌, ℕ, zero, suc, ◌+◌, ◌-◌, ◌<◌, min, max, List, [], ◌∷◌, ◌++◌, length, get_or, map, take, Option, Some, None, unwrap_or, refl, sym, ap, ◌∙◌, arith}
+use Rattle.std.proofs.Common.{◌≡◌, ℕ, zero, suc, ◌+◌, ◌-◌, ◌<◌, min, List, [], ◌∷◌, ◌++◌, length, get_or, map, take, Option, Some, None, unwrap_or, refl, sym, ap, ◌∙◌, arith}
 use Rattle.std.specs.Prelude.{slice_get}
-use Rattle.std.proofs.lemmas.List.{append-nil, take_more, map-append}
+use Rattle.std.proofs.lemmas.List.{take_more, map-append}
 use Rattle.std.specs.Option.{option_map_or, option_map, option_or}
 use Rattle.rl_base.specs.declared.stamp.Stamp.{Stamp}
 use Rattle.rl_txn.specs.declared.item.Item.{Item}
-use Rattle.rl_txn.specs.declared.batch.Batch.{Batch}
-use Rattle.rl_families.specs.Logs.{stamps_in_batch, stamps_along, first_stamp, last_stamp, last_seq_among}
+use Rattle.rl_families.specs.Logs.{first_stamp, last_stamp}
 use Rattle.rl_families.specs.Families.{least}
-use Rattle.rl_families.proofs.Logs.{stamps_along-append, last_seq_among-append}
-
--- the greatest seq of an epoch among one more stamp
-pub last_seq_push : (xs : List Stamp) (i : ℕ) (d : Stamp) (e : ℕ) → i < length xs
-    → max (last_seq_among (get_or xs i d ∷ []) e) (last_seq_among (take i xs) e) ≡ last_seq_among (take (i + 1) xs) e
-last_seq_push xs i d e l = sym (ap (λ ss. last_seq_among ss e) (take_more xs i d l) ∙ last_seq_among-append (take i xs) (get_or xs i d ∷ []) e)
 
 -- the stamps of one more item
 pub stamps_more : (xs : List Item) (i : ℕ) (x : Item) → i < length xs → x ≡ get_or xs i x → map (λ (y : Item). y.stamp) (take (i + 1) xs) ≡ map (λ (y : Item). y.stamp) (take i xs) ++ x.stamp ∷ []

@@ -1,30 +1,29 @@
 -- A family with one more batch, and going over its logs.
-use Rattle.std.proofs.Common.{◌≡◌, ◌≢◌, ◌⊎◌, ℕ, suc, zero, ◌+◌, ◌-◌, ◌<◌, ◌≤◌, List, [], ◌∷◌, ◌++◌, length, get_or, take, drop, replicate, Bool, true, false, ◌&&◌, Option, Some, None, All, refl, sym, ap, ◌∙◌, subst, arith, inl, inr, true≢false, length-append, drop-cons, cond, ◌==◌, nat_lt, nat_le}
+use Rattle.std.proofs.Common.{◌≡◌, ℕ, suc, zero, ◌+◌, ◌-◌, ◌<◌, ◌≤◌, List, [], ◌∷◌, ◌++◌, length, get_or, take, drop, replicate, Bool, true, false, ◌&&◌, All, refl, sym, ap, ◌∙◌, subst, arith, inl, inr, true≢false, length-append, drop-cons, cond, ◌==◌, nat_lt, nat_le}
 use Rattle.std.specs.Prelude.{not, slice_set}
 use Rattle.std.specs.List.{filter, flat_map}
 use Rattle.std.specs.Option.{option_map_or}
 use Rattle.std.proofs.lemmas.Bool.{cases_Bool}
 use Rattle.std.proofs.lemmas.Bool.Decides.{nat_tests, eqb_tells}
-use Rattle.std.proofs.lemmas.List.{append-nil, take-append-drop, take_all, length-drop, take_more, take-append-le, length-set, get_or-set_same, get_or-set_other, get_or_past, length-replicate, get_or-replicate}
-use Rattle.std.proofs.lemmas.List.Elements.{filter_agree, All-append, Contains-get_or}
+use Rattle.std.proofs.lemmas.List.{append-nil, take-append-drop, take_all, length-drop, take_more, take-append-le, length-set, get_or-set_same, get_or-set_other, length-replicate, get_or-replicate}
+use Rattle.std.proofs.lemmas.List.Elements.{filter_agree, All-append, All-set, Contains-get_or}
 use Rattle.rl_base.specs.declared.bound.Bound.TheVariants.{Final, Rising, Beyond}
 use Rattle.rl_base.specs.declared.stamp.Stamp.{Stamp}
-use Rattle.rl_base.specs.Order.{IsBelow, is_below}
-use Rattle.rl_base.specs.Lists.{IsPrefix}
+use Rattle.rl_base.specs.Order.{is_below}
 use Rattle.rl_base.proofs.OrderLemmas.{is_below_from, below_one_way}
 use Rattle.rl_txn.specs.declared.item.Item.{Item}
 use Rattle.rl_txn.specs.declared.batch.Batch.{Batch}
 use Rattle.rl_families.specs.Order.{in_order, IsInOrder}
-use Rattle.rl_families.specs.Logs.{stamps_in_batch, items_in_batch, stamps_along, items_along, IsRising, first_stamp, last_stamp, top_epoch, last_seq}
+use Rattle.rl_families.specs.Logs.{stamps_in_batch, stamps_along, items_along, IsRising, first_stamp, last_stamp}
 use Rattle.rl_families.specs.Families.{least_top, all_reached, watermark, is_counted, bound_of, history, IsInside, AllRise}
 use Rattle.rl_families.specs.Laws.{is_up_to_watermark}
-use Rattle.rl_base.proofs.Members.{In, contains_in, all_in, in_prefix, in_suffix, in_split}
+use Rattle.rl_base.proofs.Members.{In, contains_in, all_in}
 use Rattle.rl_families.proofs.Logs.{item_stamp, stamps_along-append, items_along-append}
 use Rattle.rl_families.proofs.Rising.{Rises, rises_from, rises_front, rises_back, above_in, below_last, last_is}
-use Rattle.rl_families.proofs.Sorting.{lower, Sorted, Least, least_at}
-use Rattle.rl_cut.specs.Kept.{AreLastOf, least_epoch, least_seq, counts_now, mark_of, AreUpTo, Keeps, HasGrown}
+use Rattle.rl_families.proofs.Sorting.{Sorted, Least}
+use Rattle.rl_cut.specs.Kept.{AreByEpoch, AreLastOf, least_epoch, least_seq, counts_now, mark_of, AreSettled, AreUpTo, Keeps, HasGrown}
 use Rattle.rl_cut.proofs.LastStamps.{last_same, lasts_trans, lasts_append, least_epoch_is, least_seq_is, mark_is}
-use Rattle.rl_cut.proofs.Counting.{filter_none, up_to_down, history_grows, mark_grows, now_low}
+use Rattle.rl_cut.proofs.Counting.{filter_none, up_to_down, history_grows, top_rises, settled_stays, mark_grows, now_low, not_again, now_tells}
 
 filter-append : (f : Item → Bool) (xs ys : List Item) → filter f (xs ++ ys) ≡ filter f xs ++ filter f ys
 filter-append f [] ys = refl
@@ -71,40 +70,32 @@ items_split log n = sym (items_along-append (take n log) (drop n log)) ∙ ap it
 pub rises_drop : (log : List Batch) (n : ℕ) → IsRising (stamps_along log) → Rises (stamps_along (drop n log))
 rises_drop log n r = rises_back (stamps_along (take n log)) (stamps_along (drop n log)) (subst Rises (sym (stamps_split log n)) (rises_from (stamps_along log) r))
 
-module _ (reached : List (List Stamp)) (before : ℕ × ℕ) where
+module _ (before now : ℕ × ℕ) (settled : List Stamp) where
   -- what is up to the watermark before does not count now
   pub skips_counted : (log : List Batch) (n : ℕ) → AreUpTo before log n
-      → filter (λ x. counts_now reached before x.stamp) (items_along (drop n log)) ≡ filter (λ x. counts_now reached before x.stamp) (items_along log)
+      → filter (λ x. counts_now before now settled x.stamp) (items_along (drop n log)) ≡ filter (λ x. counts_now before now settled x.stamp) (items_along log)
   skips_counted log n u =
-      let test : Item → Bool = λ x. counts_now reached before x.stamp in
-      let none : filter test (items_along (take n log)) ≡ [] = filter_none test (items_along (take n log)) (λ x i. old x (all_in (λ z. is_up_to_watermark before z ≡ true) (stamps_along (take n log)) u.up_to x.stamp (item_stamp (take n log) x i))) in
+      let test : Item → Bool = λ x. counts_now before now settled x.stamp in
+      let none : filter test (items_along (take n log)) ≡ [] = filter_none test (items_along (take n log)) (λ x i. not_again before now settled x.stamp (all_in (λ z. is_up_to_watermark before z ≡ true) (stamps_along (take n log)) u.up_to x.stamp (item_stamp (take n log) x i))) in
       sym (ap (filter test) (sym (items_split log n)) ∙ filter-append test (items_along (take n log)) (items_along (drop n log)) ∙ ap (λ z. z ++ filter test (items_along (drop n log))) none)
-    where
-      old : (x : Item) → is_up_to_watermark before x.stamp ≡ true → counts_now reached before x.stamp ≡ false
-      old x t = go _ (is_up_to_watermark before x.stamp) t
-        where
-          go : (a b : Bool) → b ≡ true → (a && not b) ≡ false
-          go true true h = refl
-          go false true h = refl
-          go a false h = absurd (true≢false (sym h))
 
   -- nor does what stands behind a batch that begins above the watermark
-  pub stops_above : (mark : ℕ × ℕ) → mark ≡ mark_of reached → (log : List Batch) (n : ℕ) (b : Batch) → n < length log → b ≡ get_or log n b → IsRising (stamps_along log)
-      → true ≡ option_map_or (λ s. not (is_up_to_watermark mark s)) (first_stamp (stamps_in_batch b)) false
-      → filter (λ x. counts_now reached before x.stamp) (items_along (take n log)) ≡ filter (λ x. counts_now reached before x.stamp) (items_along log)
-  stops_above mark m log n b l e r h =
-      let test : Item → Bool = λ x. counts_now reached before x.stamp in
+  pub stops_above : (log : List Batch) (n : ℕ) (b : Batch) → n < length log → b ≡ get_or log n b → IsRising (stamps_along log)
+      → true ≡ option_map_or (λ s. not (is_up_to_watermark now s)) (first_stamp (stamps_in_batch b)) false
+      → filter (λ x. counts_now before now settled x.stamp) (items_along (take n log)) ≡ filter (λ x. counts_now before now settled x.stamp) (items_along log)
+  stops_above log n b l e r h =
+      let test : Item → Bool = λ x. counts_now before now settled x.stamp in
       let rest = drop n log in
       let is : rest ≡ b ∷ drop (suc n) log = drop-cons log n b l ∙ ap (λ z. z ∷ drop (suc n) log) (sym e) in
       let rising : Rises (stamps_in_batch b ++ stamps_along (drop (suc n) log)) = subst (λ z. Rises (stamps_along z)) is (rises_drop log n r) in
-      let high : (t : Stamp) → In t (stamps_along rest) → is_up_to_watermark mark t ≡ false = λ t i. above_all mark (stamps_in_batch b) (stamps_along (drop (suc n) log)) rising (sym h) t (subst (λ z. In t (stamps_along z)) is i) in
+      let high : (t : Stamp) → In t (stamps_along rest) → is_up_to_watermark now t ≡ false = λ t i. above_all now (stamps_in_batch b) (stamps_along (drop (suc n) log)) rising (sym h) t (subst (λ z. In t (stamps_along z)) is i) in
       let none : filter test (items_along rest) ≡ [] = filter_none test (items_along rest) (λ x i. late x (high x.stamp (item_stamp rest x i))) in
       sym (ap (filter test) (sym (items_split log n)) ∙ filter-append test (items_along (take n log)) (items_along rest) ∙ ap (λ z. filter test (items_along (take n log)) ++ z) none ∙ append-nil (filter test (items_along (take n log))))
     where
-      late : (x : Item) → is_up_to_watermark mark x.stamp ≡ false → counts_now reached before x.stamp ≡ false
-      late x f = elim (cases_Bool (counts_now reached before x.stamp)) [
+      late : (x : Item) → is_up_to_watermark now x.stamp ≡ false → counts_now before now settled x.stamp ≡ false
+      late x f = elim (cases_Bool (counts_now before now settled x.stamp)) [
         | inr n ↦ n
-        | inl t ↦ absurd (true≢false (sym (subst (λ z. is_up_to_watermark z x.stamp ≡ true) (sym m) (now_low reached before x.stamp t)) ∙ f))
+        | inl t ↦ absurd (true≢false (sym (now_low before now settled x.stamp t) ∙ f))
       ]
 
 -- one more batch that ends up to a watermark
@@ -147,103 +138,132 @@ inside_set (l ∷ ls) zero b = ((b ∷ [], refl), all_same ls)
 inside_set (l ∷ ls) (suc i) b = (([], append-nil l), inside_set ls i b)
 
 -- what is kept, once a log has one more batch and its last stamps are known
-pub has_grown : (logs : List (List Batch)) (reached : List (List Stamp)) (counted : List ℕ) (mark : ℕ × ℕ) (items : List Item) → Keeps logs reached counted mark items
-    → (i : ℕ) (b : Batch) (lasts : List Stamp) → i < length logs → AreLastOf (get_or reached i [] ++ stamps_in_batch b) lasts → AllRise (slice_set logs i (get_or logs i [] ++ b ∷ []))
-    → HasGrown (slice_set logs i (get_or logs i [] ++ b ∷ [])) (slice_set reached i lasts) counted mark items
-has_grown logs reached counted mark items k i b lasts l a rising = record {
-  rising = rising;
-  streams = length-set reached i lasts ∙ k.streams ∙ sym (length-set logs i (get_or logs i [] ++ b ∷ []));
-  places = k.places ∙ sym (length-set logs i (get_or logs i [] ++ b ∷ []));
-  reached = λ j. elim (eqb_tells j i) [
+module _ (logs : List (List Batch)) (reached : List (List Stamp)) (settled : List Stamp) (counted : List ℕ) (mark : ℕ × ℕ) (items : List Item) (k : Keeps logs reached settled counted mark items)
+    (i : ℕ) (b : Batch) (lasts : List Stamp) (l : i < length logs) (a : AreLastOf (get_or reached i [] ++ stamps_in_batch b) lasts) (climb : AreByEpoch lasts) (rising : AllRise (slice_set logs i (get_or logs i [] ++ b ∷ []))) where
+  same : get_or (slice_set logs i (get_or logs i [] ++ b ∷ [])) i [] ≡ get_or logs i [] ++ b ∷ []
+  same = get_or-set_same logs i (get_or logs i [] ++ b ∷ []) [] l
+
+  stamps : stamps_along (get_or logs i [] ++ b ∷ []) ≡ stamps_along (get_or logs i []) ++ stamps_in_batch b
+  stamps = stamps_along-append (get_or logs i []) (b ∷ []) ∙ ap (λ z. stamps_along (get_or logs i []) ++ z) (append-nil (stamps_in_batch b))
+
+  here : AreLastOf (stamps_along (get_or (slice_set logs i (get_or logs i [] ++ b ∷ [])) i [])) (get_or (slice_set reached i lasts) i [])
+  here =
+      let known : AreLastOf (stamps_along (get_or logs i []) ++ stamps_in_batch b) lasts =
+      lasts_trans (stamps_along (get_or logs i []) ++ stamps_in_batch b) (get_or reached i [] ++ stamps_in_batch b) lasts (lasts_append (stamps_along (get_or logs i [])) (get_or reached i []) (stamps_in_batch b) (k.reached i)) a in
+      let within : i < length reached = omega (arith, k.streams) in
+      subst (λ z. AreLastOf (stamps_along z) (get_or (slice_set reached i lasts) i [])) (sym same)
+      (subst (AreLastOf (stamps_along (get_or logs i [] ++ b ∷ []))) (sym (get_or-set_same reached i lasts [] within)) (subst (λ z. AreLastOf z lasts) (sym stamps) known))
+
+  longer : (log : List Batch) (n : ℕ) → AreUpTo mark log n → AreUpTo mark (log ++ b ∷ []) n
+  longer log n u = record {
+    within = (let w = u.within in omega (arith, length-append log (b ∷ [])));
+    up_to = (let w = u.within in subst (λ z. All (λ s. is_up_to_watermark mark s ≡ true) (stamps_along z)) (sym (take-append-le n log (b ∷ []) w)) u.up_to);
+  }
+
+  streams_now : length (slice_set reached i lasts) ≡ length (slice_set logs i (get_or logs i [] ++ b ∷ []))
+  streams_now = length-set reached i lasts ∙ k.streams ∙ sym (length-set logs i (get_or logs i [] ++ b ∷ []))
+
+  reached_now : (j : ℕ) → AreLastOf (stamps_along (get_or (slice_set logs i (get_or logs i [] ++ b ∷ [])) j [])) (get_or (slice_set reached i lasts) j [])
+  reached_now j = elim (eqb_tells j i) [
     | inl e ↦ subst (λ z. AreLastOf (stamps_along (get_or (slice_set logs i (get_or logs i [] ++ b ∷ [])) z [])) (get_or (slice_set reached i lasts) z [])) (sym e.1) here
     | inr n ↦ subst (λ z. AreLastOf (stamps_along z) (get_or (slice_set reached i lasts) j [])) (sym (get_or-set_other logs i j (get_or logs i [] ++ b ∷ []) [] n.1))
         (subst (AreLastOf (stamps_along (get_or logs j []))) (sym (get_or-set_other reached i j lasts [] n.1)) (k.reached j))
-  ];
-  counted = λ j. elim (eqb_tells j i) [
-    | inl e ↦ subst (λ z. AreUpTo mark (get_or (slice_set logs i (get_or logs i [] ++ b ∷ [])) z []) (get_or counted z 0)) (sym e.1)
-        (subst (λ z. AreUpTo mark z (get_or counted i 0)) (sym same) (longer (get_or logs i []) (get_or counted i 0) (k.counted i)))
-    | inr n ↦ subst (λ z. AreUpTo mark z (get_or counted j 0)) (sym (get_or-set_other logs i j (get_or logs i [] ++ b ∷ []) [] n.1)) (k.counted j)
-  ];
-  smaller = logs;
-  inside = inside_set logs i b;
-  mark = k.mark;
-  history = k.history;
-}
-  where
-    same : get_or (slice_set logs i (get_or logs i [] ++ b ∷ [])) i [] ≡ get_or logs i [] ++ b ∷ []
-    same = get_or-set_same logs i (get_or logs i [] ++ b ∷ []) [] l
+  ]
 
-    stamps : stamps_along (get_or logs i [] ++ b ∷ []) ≡ stamps_along (get_or logs i []) ++ stamps_in_batch b
-    stamps = stamps_along-append (get_or logs i []) (b ∷ []) ∙ ap (λ z. stamps_along (get_or logs i []) ++ z) (append-nil (stamps_in_batch b))
+  top_is : mark.0 ≡ least_top logs
+  top_is = ap (λ (m : ℕ × ℕ). m.0) k.mark
 
-    here : AreLastOf (stamps_along (get_or (slice_set logs i (get_or logs i [] ++ b ∷ [])) i [])) (get_or (slice_set reached i lasts) i [])
-    here =
-        let known : AreLastOf (stamps_along (get_or logs i []) ++ stamps_in_batch b) lasts =
-        lasts_trans (stamps_along (get_or logs i []) ++ stamps_in_batch b) (get_or reached i [] ++ stamps_in_batch b) lasts (lasts_append (stamps_along (get_or logs i [])) (get_or reached i []) (stamps_in_batch b) (k.reached i)) a in
-        let within : i < length reached = omega (arith, k.streams) in
-        subst (λ z. AreLastOf (stamps_along z) (get_or (slice_set reached i lasts) i [])) (sym same)
-        (subst (AreLastOf (stamps_along (get_or logs i [] ++ b ∷ []))) (sym (get_or-set_same reached i lasts [] within)) (subst (λ z. AreLastOf z lasts) (sym stamps) known))
+  settled_now : AreSettled (slice_set reached i lasts) mark.0 settled
+  settled_now = record {
+    epochs = k.settled.epochs;
+    below = k.settled.below;
+    bounds = λ e u. k.settled.bounds e u ∙ least_seq_is logs reached k.streams k.reached e
+        ∙ sym (settled_stays logs (slice_set logs i (get_or logs i [] ++ b ∷ [])) (inside_set logs i b) rising e (subst (λ n. e < n) top_is u))
+        ∙ sym (least_seq_is (slice_set logs i (get_or logs i [] ++ b ∷ [])) (slice_set reached i lasts) streams_now reached_now e);
+  }
 
-    longer : (log : List Batch) (n : ℕ) → AreUpTo mark log n → AreUpTo mark (log ++ b ∷ []) n
-    longer log n u = record {
-      within = (let w = u.within in omega (arith, length-append log (b ∷ [])));
-      up_to = (let w = u.within in subst (λ z. All (λ s. is_up_to_watermark mark s ≡ true) (stamps_along z)) (sym (take-append-le n log (b ∷ []) w)) u.up_to);
-    }
+  pub has_grown : HasGrown (slice_set logs i (get_or logs i [] ++ b ∷ [])) (slice_set reached i lasts) settled counted mark items
+  has_grown = record {
+    rising = rising;
+    streams = streams_now;
+    places = k.places ∙ sym (length-set logs i (get_or logs i [] ++ b ∷ []));
+    reached = reached_now;
+    epochs = All-set AreByEpoch reached i lasts climb k.epochs;
+    settled = settled_now;
+    rises = subst (λ n. n ≤ least_epoch (slice_set reached i lasts)) (sym top_is)
+        (subst (λ n. least_top logs ≤ n) (sym (least_epoch_is (slice_set logs i (get_or logs i [] ++ b ∷ [])) (slice_set reached i lasts) streams_now reached_now))
+        (top_rises logs (slice_set logs i (get_or logs i [] ++ b ∷ [])) (inside_set logs i b) rising));
+    counted = λ j. elim (eqb_tells j i) [
+      | inl e ↦ subst (λ z. AreUpTo mark (get_or (slice_set logs i (get_or logs i [] ++ b ∷ [])) z []) (get_or counted z 0)) (sym e.1)
+          (subst (λ z. AreUpTo mark z (get_or counted i 0)) (sym same) (longer (get_or logs i []) (get_or counted i 0) (k.counted i)))
+      | inr n ↦ subst (λ z. AreUpTo mark z (get_or counted j 0)) (sym (get_or-set_other logs i j (get_or logs i [] ++ b ∷ []) [] n.1)) (k.counted j)
+    ];
+    smaller = logs;
+    inside = inside_set logs i b;
+    mark = k.mark;
+    history = k.history;
+  }
 
 -- what counts now, behind the history that was kept, is the history
-pub history_now : (logs : List (List Batch)) (reached : List (List Stamp)) (counted : List ℕ) (mark : ℕ × ℕ) (items : List Item) → HasGrown logs reached counted mark items
-    → items ++ in_order (filter (λ x. counts_now reached mark x.stamp) (flat_map items_along logs)) ≡ history logs
-history_now logs reached counted mark items g =
-    let now : Item → Bool = λ x. counts_now reached mark x.stamp in
-    let later : Item → Bool = λ x. is_counted logs x.stamp && not (is_up_to_watermark (watermark g.smaller) x.stamp) in
-    let same : (x : Item) → now x ≡ later x = λ x. tests (least_epoch reached) (least_top logs) (least_seq reached x.stamp.epoch) (all_reached logs x.stamp.epoch) mark (watermark g.smaller) x.stamp
-    (least_epoch_is logs reached g.streams g.reached) (least_seq_is logs reached g.streams g.reached x.stamp.epoch) g.mark in
-    ap (λ z. z ++ in_order (filter now (flat_map items_along logs))) g.history
-    ∙ ap (λ z. history g.smaller ++ in_order z) (filter_agree now later same (flat_map items_along logs))
-    ∙ sym (history_grows g.smaller logs g.inside g.rising)
-  where
-    tests : (t u q r : ℕ) (m n : ℕ × ℕ) (s : Stamp) → t ≡ u → q ≡ r → m ≡ n
-        → ((nat_lt 0 s.epoch && (nat_le s.epoch t && nat_le s.seq q)) && not (is_up_to_watermark m s)) ≡ ((nat_lt 0 s.epoch && (nat_le s.epoch u && nat_le s.seq r)) && not (is_up_to_watermark n s))
-    tests t u q r m n s a b c =
-        ap (λ z. (nat_lt 0 s.epoch && (nat_le s.epoch z && nat_le s.seq q)) && not (is_up_to_watermark m s)) a
-        ∙ ap (λ z. (nat_lt 0 s.epoch && (nat_le s.epoch u && nat_le s.seq z)) && not (is_up_to_watermark m s)) b
-        ∙ ap (λ z. (nat_lt 0 s.epoch && (nat_le s.epoch u && nat_le s.seq r)) && not (is_up_to_watermark z s)) c
+module _ (logs : List (List Batch)) (reached : List (List Stamp)) (settled more : List Stamp) (counted : List ℕ) (mark now : ℕ × ℕ) (items : List Item)
+    (g : HasGrown logs reached settled counted mark items) (n : now ≡ mark_of reached) (bounds : AreSettled reached now.0 more) where
+  history_now : items ++ in_order (filter (λ x. counts_now mark now more x.stamp) (flat_map items_along logs)) ≡ history logs
+  history_now =
+      let new : Item → Bool = λ x. counts_now mark now more x.stamp in
+      let later : Item → Bool = λ x. is_counted logs x.stamp && not (is_up_to_watermark (watermark g.smaller) x.stamp) in
+      let agree : (x : Item) → new x ≡ later x = λ x. now_tells reached mark now more x.stamp n bounds ∙ tests (least_epoch reached) (least_top logs) (least_seq reached x.stamp.epoch) (all_reached logs x.stamp.epoch) mark (watermark g.smaller) x.stamp
+      (least_epoch_is logs reached g.streams g.reached) (least_seq_is logs reached g.streams g.reached x.stamp.epoch) g.mark in
+      ap (λ z. z ++ in_order (filter new (flat_map items_along logs))) g.history
+      ∙ ap (λ z. history g.smaller ++ in_order z) (filter_agree new later agree (flat_map items_along logs))
+      ∙ sym (history_grows g.smaller logs g.inside g.rising)
+    where
+      tests : (t u q r : ℕ) (m n : ℕ × ℕ) (s : Stamp) → t ≡ u → q ≡ r → m ≡ n
+          → ((nat_lt 0 s.epoch && (nat_le s.epoch t && nat_le s.seq q)) && not (is_up_to_watermark m s)) ≡ ((nat_lt 0 s.epoch && (nat_le s.epoch u && nat_le s.seq r)) && not (is_up_to_watermark n s))
+      tests t u q r m n s a b c =
+          ap (λ z. (nat_lt 0 s.epoch && (nat_le s.epoch z && nat_le s.seq q)) && not (is_up_to_watermark m s)) a
+          ∙ ap (λ z. (nat_lt 0 s.epoch && (nat_le s.epoch u && nat_le s.seq z)) && not (is_up_to_watermark m s)) b
+          ∙ ap (λ z. (nat_lt 0 s.epoch && (nat_le s.epoch u && nat_le s.seq r)) && not (is_up_to_watermark z s)) c
 
-pub keeps_now : (logs : List (List Batch)) (reached : List (List Stamp)) (counted counts : List ℕ) (mark now : ℕ × ℕ) (items all : List Item) → HasGrown logs reached counted mark items → now ≡ mark_of reached
-    → length counts ≡ length counted → ((i : ℕ) → AreUpTo now (get_or logs i []) (get_or counts i 0)) → all ≡ items ++ in_order (filter (λ x. counts_now reached mark x.stamp) (flat_map items_along logs))
-    → Keeps logs reached counts now all
-keeps_now logs reached counted counts mark now items all g n l u h = record {
-  rising = g.rising;
-  streams = g.streams;
-  places = l ∙ g.places;
-  reached = g.reached;
-  counted = u;
-  mark = n ∙ mark_is logs reached g.streams g.reached;
-  history = h ∙ history_now logs reached counted mark items g;
-}
+  pub keeps_now : (counts : List ℕ) (all : List Item) → length counts ≡ length counted → ((i : ℕ) → AreUpTo now (get_or logs i []) (get_or counts i 0)) → all ≡ items ++ in_order (filter (λ x. counts_now mark now more x.stamp) (flat_map items_along logs))
+      → Keeps logs reached more counts now all
+  keeps_now counts all l u h = record {
+    rising = g.rising;
+    streams = g.streams;
+    places = l ∙ g.places;
+    reached = g.reached;
+    epochs = g.epochs;
+    settled = bounds;
+    counted = u;
+    mark = n ∙ mark_is logs reached g.streams g.reached;
+    history = h ∙ history_now;
+  }
 
-pub now_grown : (logs : List (List Batch)) (reached : List (List Stamp)) (counted : List ℕ) (mark now : ℕ × ℕ) (items : List Item) → HasGrown logs reached counted mark items → now ≡ mark_of reached
+pub now_grown : (logs : List (List Batch)) (reached : List (List Stamp)) (settled : List Stamp) (counted : List ℕ) (mark now : ℕ × ℕ) (items : List Item) → HasGrown logs reached settled counted mark items → now ≡ mark_of reached
     → (i : ℕ) → AreUpTo now (get_or logs i []) (get_or counted i 0)
-now_grown logs reached counted mark now items g n i =
+now_grown logs reached settled counted mark now items g n i =
     up_to_later mark now (get_or logs i []) (get_or counted i 0)
     (λ s u. subst (λ z. is_up_to_watermark z s ≡ true) (sym (n ∙ mark_is logs reached g.streams g.reached)) (mark_grows g.smaller logs g.inside g.rising s (subst (λ z. is_up_to_watermark z s ≡ true) g.mark u)))
     (g.counted i)
 
 -- ---- at the start ----
-pub keeps_none : (logs : List (List Batch)) (reached : List (List Stamp)) (counted : List ℕ) (items : List Item) (n : ℕ) → logs ≡ replicate n [] → reached ≡ replicate n [] → counted ≡ replicate n 0 → items ≡ [] → Keeps logs reached counted (0, 0) items
-keeps_none logs reached counted items n a b c e =
-    subst (λ z. Keeps z reached counted (0, 0) items) (sym a)
-    (subst (λ z. Keeps (replicate n []) z counted (0, 0) items) (sym b)
-    (subst (λ z. Keeps (replicate n []) (replicate n []) z (0, 0) items) (sym c)
-    (subst (Keeps (replicate n []) (replicate n []) (replicate n 0) (0, 0)) (sym e) (record {
+pub keeps_none : (logs : List (List Batch)) (reached : List (List Stamp)) (settled : List Stamp) (counted : List ℕ) (items : List Item) (n : ℕ) → logs ≡ replicate n [] → reached ≡ replicate n [] → settled ≡ [] → counted ≡ replicate n 0 → items ≡ []
+    → Keeps logs reached settled counted (0, 0) items
+keeps_none logs reached settled counted items n a b d c e =
+    subst (λ z. Keeps z reached settled counted (0, 0) items) (sym a)
+    (subst (λ z. Keeps (replicate n []) z settled counted (0, 0) items) (sym b)
+    (subst (λ z. Keeps (replicate n []) (replicate n []) z counted (0, 0) items) (sym d)
+    (subst (λ z. Keeps (replicate n []) (replicate n []) [] z (0, 0) items) (sym c)
+    (subst (Keeps (replicate n []) (replicate n []) [] (replicate n 0) (0, 0)) (sym e) (record {
       rising = λ k d l. subst (λ z. IsRising (stamps_along z)) (sym (get_or-replicate n k [] d (omega (arith, length-replicate n none)))) nothing;
       streams = length-replicate n none_stamps ∙ sym (length-replicate n none);
       places = length-replicate n 0 ∙ sym (length-replicate n none);
       reached = λ i. subst (λ z. AreLastOf (stamps_along z) (get_or (replicate n []) i [])) (sym (empty n i)) (subst (AreLastOf []) (sym (empty_stamps n i)) (last_same []));
       counted = λ i. subst (λ z. AreUpTo (0, 0) z (get_or (replicate n 0) i 0)) (sym (empty n i)) (subst (AreUpTo (0, 0) []) (sym (zeros n i)) (record { within = omega arith; up_to = λ k d l. absurd (omega arith) }));
+      epochs = λ k d l. subst AreByEpoch (sym (get_or-replicate n k [] d (omega (arith, length-replicate n none_stamps)))) no_pairs;
+      settled = record { epochs = no_pairs; below = λ k d l. absurd (omega arith); bounds = λ k l. absurd (omega arith) };
       mark = sym (first n);
       history = sym (no_history n);
-    }))))
+    })))))
   where
     none : List Batch
     none = []
@@ -253,6 +273,9 @@ keeps_none logs reached counted items n a b c e =
 
     nothing : IsRising []
     nothing i j d a l = absurd (omega arith)
+
+    no_pairs : AreByEpoch []
+    no_pairs i j d a l = absurd (omega arith)
 
     empty : (n i : ℕ) → get_or (replicate n []) i none ≡ []
     empty zero i = refl

@@ -7,9 +7,11 @@ ghost use Rattle.rl_families.specs.Logs.{stamps_in_batch, items_in_batch, stamps
 ghost use Rattle.rl_families.specs.Families.{AllRise};
 ghost use Rattle.rl_families.specs.Order.{in_order};
 ghost use Rattle.rl_families.specs.Laws.{is_up_to_watermark};
-ghost use Rattle.rl_cut.specs.Kept.{AreUpTo, counts_now, mark_of, HasGrown, Keeps};
+ghost use Rattle.rl_base.specs.Lists.{IsPrefix};
+ghost use Rattle.rl_cut.specs.Kept.{AreByEpoch, AreUpTo, AreSettled, counts_now, mark_of, HasGrown, Keeps};
 
-use crate::lasts::{Lasts, least_seq, mark_of};
+use crate::bounds::settle;
+use crate::lasts::{Lasts, last_seq, mark_of};
 use crate::stamps::{first_of, last_of};
 use rl_base::memory::Memory;
 use rl_base::stamp::Stamp;
@@ -25,24 +27,28 @@ pub struct Marks {
     pub now: (u32, u64),
 }
 
-/// Counts what counts now that the logs have grown. After `Memory` nothing has changed.
+/// Counts what counts now that the logs have grown. After `Memory` nothing has changed, but that
+/// bounds may stand behind those that were settled.
 pub fn count(
     alloc: Global,
     logs: &[Batches],
     reached: &[Lasts],
+    settled: &mut Vec<Stamp>,
     counted: &mut Vec<usize>,
     mark: &mut (u32, u64),
     history: &mut Items,
 ) -> Result<(), Memory>
-    requires { HasGrown logs.now reached.now counted.old.items mark.old history.old }
-    ensures kept { OnOk result (Keeps logs.now reached.now counted.new.items mark.new history.new) }
+    requires { HasGrown logs.now reached.now settled.old.items counted.old.items mark.old history.old }
+    ensures kept { OnOk result (Keeps logs.now reached.now settled.new.items counted.new.items mark.new history.new) }
+    ensures settled { IsPrefix settled.old.items settled.new.items }
     ensures counted { OnErr result (counted.new.items ≡ counted.old.items) }
     ensures mark { OnErr result (mark.new ≡ mark.old) }
     ensures history { OnErr result (history.new ≡ history.old) }
 {
     let now = mark_of(reached);
     let marks = Marks { before: *mark, now };
-    let due = in_order_due(alloc, logs, reached, counted, marks)?;
+    settle(reached, marks.before.0, now.0, settled)?;
+    let due = in_order_due(alloc, logs, settled, counted, marks)?;
     append_items(alloc, history, due)?;
     advance(logs, counted, now);
     *mark = now;
@@ -53,18 +59,18 @@ pub fn count(
 fn in_order_due(
     alloc: Global,
     logs: &[Batches],
-    reached: &[Lasts],
+    settled: &[Stamp],
     counted: &[usize],
     marks: Marks,
 ) -> Result<Vec<Item>, Memory>
-    requires now { marks.now ≡ mark_of reached.now }
+    requires settled { AreByEpoch settled.now }
     requires rising { AllRise logs.now }
     requires places { length counted.now ≡ length logs.now }
     requires counted { (i : ℕ) → AreUpTo marks.before (slice_index_or logs.now i []) (slice_index counted.now i) }
     ensures { IfOk result (λ due. due.items
-        ≡ in_order (filter (λ x. counts_now reached.now marks.before x.stamp) (flat_map items_along logs.now))) }
+        ≡ in_order (filter (λ x. counts_now marks.before marks.now settled.now x.stamp) (flat_map items_along logs.now))) }
 {
-    let mut due = due(alloc, logs, reached, counted, marks)?;
+    let mut due = due(alloc, logs, settled, counted, marks)?;
     due.sort_by_key(|item| (item.stamp.epoch, item.stamp.seq))?;
     Ok(due)
 }
@@ -73,20 +79,20 @@ fn in_order_due(
 fn due(
     alloc: Global,
     logs: &[Batches],
-    reached: &[Lasts],
+    settled: &[Stamp],
     counted: &[usize],
     marks: Marks,
 ) -> Result<Vec<Item>, Memory>
-    requires now { marks.now ≡ mark_of reached.now }
+    requires settled { AreByEpoch settled.now }
     requires rising { AllRise logs.now }
     requires places { length counted.now ≡ length logs.now }
     requires counted { (i : ℕ) → AreUpTo marks.before (slice_index_or logs.now i []) (slice_index counted.now i) }
     ensures { IfOk result (λ due. due.items
-        ≡ filter (λ x. counts_now reached.now marks.before x.stamp) (flat_map items_along logs.now)) }
+        ≡ filter (λ x. counts_now marks.before marks.now settled.now x.stamp) (flat_map items_along logs.now)) }
 {
     let mut due = Vec::new(alloc);
     for (i, log) in logs.iter().enumerate() {
-        push_waiting(alloc, log, counted[i], reached, marks, &mut due)?;
+        push_waiting(alloc, log, counted[i], settled, marks, &mut due)?;
     }
     Ok(due)
 }
@@ -96,36 +102,36 @@ fn push_waiting(
     alloc: Global,
     log: &Batches,
     counted: usize,
-    reached: &[Lasts],
+    settled: &[Stamp],
     marks: Marks,
     due: &mut Vec<Item>,
 ) -> Result<(), Memory>
-    requires now { marks.now ≡ mark_of reached.now }
+    requires settled { AreByEpoch settled.now }
     requires rising { IsRising (stamps_along log.now) }
     requires counted { AreUpTo marks.before log.now counted }
     ensures { OnOk result (due.new.items ≡ due.old.items
-        ++ filter (λ x. counts_now reached.now marks.before x.stamp) (items_along log.now)) }
+        ++ filter (λ x. counts_now marks.before marks.now settled.now x.stamp) (items_along log.now)) }
 {
-    push_log(alloc, &log.as_slice()[counted..], reached, marks, due)
+    push_log(alloc, &log.as_slice()[counted..], settled, marks, due)
 }
 
 fn push_log(
     alloc: Global,
     log: &[Batch],
-    reached: &[Lasts],
+    settled: &[Stamp],
     marks: Marks,
     due: &mut Vec<Item>,
 ) -> Result<(), Memory>
-    requires now { marks.now ≡ mark_of reached.now }
+    requires settled { AreByEpoch settled.now }
     requires rising { IsRising (stamps_along log.now) }
     ensures { OnOk result (due.new.items ≡ due.old.items
-        ++ filter (λ x. counts_now reached.now marks.before x.stamp) (items_along log.now)) }
+        ++ filter (λ x. counts_now marks.before marks.now settled.now x.stamp) (items_along log.now)) }
 {
     for batch in log {
         if begins_above(batch, marks.now) {
             return Ok(());
         }
-        push_batch(alloc, batch, reached, marks, due)?;
+        push_batch(alloc, batch, settled, marks, due)?;
     }
     Ok(())
 }
@@ -133,16 +139,16 @@ fn push_log(
 fn push_batch(
     alloc: Global,
     batch: &Batch,
-    reached: &[Lasts],
+    settled: &[Stamp],
     marks: Marks,
     due: &mut Vec<Item>,
 ) -> Result<(), Memory>
-    requires { marks.now ≡ mark_of reached.now }
+    requires { AreByEpoch settled.now }
     ensures { OnOk result (due.new.items ≡ due.old.items
-        ++ filter (λ x. counts_now reached.now marks.before x.stamp) (items_in_batch batch.now)) }
+        ++ filter (λ x. counts_now marks.before marks.now settled.now x.stamp) (items_in_batch batch.now)) }
 {
     match batch {
-        Batch::Items(items) => push_items(alloc, items.as_slice(), reached, marks, due),
+        Batch::Items(items) => push_items(alloc, items.as_slice(), settled, marks, due),
         Batch::Idle(_) => Ok(()),
         Batch::Opened(_) => Ok(()),
     }
@@ -151,16 +157,16 @@ fn push_batch(
 fn push_items(
     alloc: Global,
     items: &[Item],
-    reached: &[Lasts],
+    settled: &[Stamp],
     marks: Marks,
     due: &mut Vec<Item>,
 ) -> Result<(), Memory>
-    requires { marks.now ≡ mark_of reached.now }
+    requires { AreByEpoch settled.now }
     ensures { OnOk result (due.new.items ≡ due.old.items
-        ++ filter (λ x. counts_now reached.now marks.before x.stamp) items.now) }
+        ++ filter (λ x. counts_now marks.before marks.now settled.now x.stamp) items.now) }
 {
     for item in items {
-        if counts_now(reached, marks, item.stamp) {
+        if counts_now(settled, marks, item.stamp) {
             due.push(item.copy(alloc)?)?;
         }
     }
@@ -168,14 +174,14 @@ fn push_items(
 }
 
 /// Whether an item of this stamp counts now, and did not before.
-fn counts_now(reached: &[Lasts], marks: Marks, stamp: Stamp) -> bool
-    requires { marks.now ≡ mark_of reached.now }
-    ensures { result ≡ counts_now reached.now marks.before stamp }
+fn counts_now(settled: &[Stamp], marks: Marks, stamp: Stamp) -> bool
+    requires { AreByEpoch settled.now }
+    ensures { result ≡ counts_now marks.before marks.now settled.now stamp }
 {
     if stamp.epoch == 0 || is_up_to(marks.before, stamp) || !is_up_to(marks.now, stamp) {
         return false;
     }
-    stamp.epoch == marks.now.0 || stamp.seq <= least_seq(reached, stamp.epoch)
+    stamp.epoch == marks.now.0 || stamp.seq <= last_seq(settled, stamp.epoch)
 }
 
 /// Whether a stamp is at most a watermark.

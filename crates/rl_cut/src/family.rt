@@ -4,12 +4,13 @@ ghost use Rattle.std.specs.Prelude.{◌≡◌, ◌<◌, ◌≤◌, ◌-◌, ◌+
 ghost use Rattle.rl_txn.specs.declared.batch.Batch.{Batch};
 ghost use Rattle.rl_families.specs.Logs.{stamps_in_batch, stamps_along, IsRising, first_stamp, last_stamp};
 ghost use Rattle.rl_families.specs.Order.{IsInOrder};
-ghost use Rattle.rl_families.specs.Families.{AllRise, bound_of, watermark, history};
+ghost use Rattle.rl_families.specs.Families.{AllRise, all_reached, bound_of, history, least_top, watermark};
 ghost use Rattle.rl_families.specs.Streams.{log_at};
+ghost use Rattle.rl_cut.specs.Lasts.{all_noted, LeadsBack};
 ghost use Rattle.rl_cut.specs.Refusals.{order_refusal, extend_refusal};
 
 use crate::due::count;
-use crate::lasts::{Lasts, last_of_lasts, lasts_after, least_seq};
+use crate::lasts::{Lasts, Tail, last_of_lasts, last_seq, least_seq, note_batch, roll_back};
 use crate::stamps::first_of;
 use rl_base::bound::Bound;
 use rl_base::memory::Memory;
@@ -18,7 +19,6 @@ use rl_txn::batch::{Batch, Batches, copy_items};
 use rl_txn::item::Items;
 use std::alloc::Global;
 use std::marker::Model;
-use std::mem;
 use thiserror::Error;
 
 /// One log for each stream. Contracts see the list of the logs.
@@ -27,6 +27,8 @@ pub struct Family {
     logs: Vec<Batches>,
     /// For each stream, the last stamp of each epoch.
     reached: Vec<Lasts>,
+    /// The bounds of the epochs below the least top, as stamps.
+    settled: Vec<Stamp>,
     /// For each stream, how many batches are wholly up to the watermark.
     counted: Vec<usize>,
     mark: (u32, u64),
@@ -84,6 +86,7 @@ impl Family {
         Ok(Family {
             logs,
             reached,
+            settled: Vec::new(alloc),
             counted,
             mark: (0, 0),
             history: Items::new(alloc),
@@ -122,19 +125,20 @@ impl Family {
     {
         let at = stream as usize - 1;
         let alloc = *self.logs.allocator();
-        let lasts = lasts_after(alloc, &self.reached[at], &batch)?;
-        push_batch(&mut self.logs, at, batch)?;
-        let before = mem::replace(&mut self.reached[at], lasts);
+        let tail = push_noted(&mut self.logs, &mut self.reached, at, batch)?;
+        let len = self.settled.len();
         let counted = count(
             alloc,
             &self.logs,
             &self.reached,
+            &mut self.settled,
             &mut self.counted,
             &mut self.mark,
             &mut self.history,
         );
         if let Err(e) = counted {
-            self.reached[at] = before;
+            self.settled.truncate(len);
+            roll_back(&mut self.reached[at], tail);
             pop_batch(&mut self.logs, at);
             return Err(e);
         }
@@ -184,13 +188,26 @@ impl Family {
     {
         let top = self.mark.0;
         if epoch > top {
-            return Bound::Beyond;
-        }
-        let seq = least_seq(&self.reached, epoch);
-        if epoch < top {
-            Bound::Final { seq }
+            Bound::Beyond
+        } else if epoch < top {
+            Bound::Final {
+                seq: last_seq(&self.settled, epoch),
+            }
         } else {
-            Bound::Rising { seq }
+            Bound::Rising {
+                seq: self.seq_at_top(),
+            }
+        }
+    }
+
+    /// How far all streams have come in the least top.
+    fn seq_at_top(&self) -> u64
+        ensures { result ≡ all_reached self.now (least_top self.now) }
+    {
+        if self.mark.0 == 0 {
+            least_seq(&self.reached, 0)
+        } else {
+            self.mark.1
         }
     }
 
@@ -216,6 +233,31 @@ fn order_refusal(last: Option<Stamp>, first: Option<Stamp>) -> Option<ExtendErro
         }
         _ => None,
     }
+}
+
+/// Appends a batch to one of some logs, and takes its stamps up into the last ones of the stream;
+/// answers how these ended before. After `Memory` nothing has changed.
+fn push_noted(
+    logs: &mut Vec<Batches>,
+    reached: &mut Vec<Lasts>,
+    at: usize,
+    batch: Batch,
+) -> Result<Option<Tail>, Memory>
+    requires log { at < length logs.old.items }
+    requires lasts { at < length reached.old.items }
+    ensures logs { OnOk result (logs.new.items ≡ slice_set logs.old.items at (slice_index_or logs.old.items at [] ++ batch ∷ [])) }
+    ensures lasts { OnOk result (reached.new.items ≡ slice_set reached.old.items at (all_noted (slice_index_or reached.old.items at []) (stamps_in_batch batch))) }
+    ensures tail { let before = slice_index_or reached.old.items at [] in
+        IfOk result (λ tail. LeadsBack tail (all_noted before (stamps_in_batch batch)) before) }
+    ensures same_logs { OnErr result (logs.new.items ≡ logs.old.items) }
+    ensures same_lasts { OnErr result (reached.new.items ≡ reached.old.items) }
+{
+    let tail = note_batch(&mut reached[at], &batch)?;
+    if let Err(e) = push_batch(logs, at, batch) {
+        roll_back(&mut reached[at], tail);
+        return Err(e);
+    }
+    Ok(tail)
 }
 
 /// Appends a batch to one of some logs.

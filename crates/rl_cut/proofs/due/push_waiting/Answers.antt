@@ -1,8 +1,7 @@
-use Rattle.std.proofs.Common.{◌≡◌, ◌++◌, ◌-◌, List, Bool, length, take, drop, ap, subst, sym, ◌∙◌}
+use Rattle.std.proofs.Common.{◌≡◌, ◌++◌, ◌-◌, Bool, length, take, drop, ap, subst, sym, ◌∙◌}
 use Rattle.std.specs.Prelude.{OnOk}
 use Rattle.std.specs.List.{filter}
 use Rattle.rl_txn.specs.declared.item.Item.{Item}
-use Rattle.rl_txn.specs.declared.batch.Batch.{Batch}
 use Rattle.rl_families.specs.Logs.{IsRising, stamps_along, items_along}
 use Rattle.rl_families.proofs.Rising.{from_rises}
 use Rattle.rl_cut.specs.Kept.{counts_now}
@@ -20,7 +19,7 @@ pub returns : goal.returns
 returns c =
     let log = c.args.log.now in
     let n = c.args.counted in
-    let test : Item → Bool = λ x. counts_now c.args.reached.now c.args.marks.before x.stamp in
+    let test : Item → Bool = λ x. counts_now c.args.marks.before c.args.marks.now c.args.settled.now x.stamp in
     let tail = ap (λ z. take (length z - n) (drop n z)) c.as_slice.ensures ∙ tail_is log n c.requires.counted.within in
-    let same = ap (λ z. filter test (items_along z)) tail ∙ skips_counted c.args.reached.now c.args.marks.before log n c.requires.counted in
+    let same = ap (λ z. filter test (items_along z)) tail ∙ skips_counted c.args.marks.before c.args.marks.now c.args.settled.now log n c.requires.counted in
     subst (λ z. OnOk c.push_log.result (c.push_log.new.due.items ≡ c.args.due.now.items ++ z)) same c.push_log.ensures

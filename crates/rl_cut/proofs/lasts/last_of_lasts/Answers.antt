@@ -1,4 +1,4 @@
-use Rattle.std.proofs.Common.{◌≡◌, ◌-◌, length, ap, ◌∙◌}
+use Rattle.std.proofs.Common.{◌-◌, length, ap, ◌∙◌}
 use Rattle.std.specs.Prelude.{slice_get}
 use Rattle.rl_cut.proofs.Folds.{last_of_stamps}
 use Rattle.rl_cut.proofs.lasts.last_of_lasts.Goals as goal

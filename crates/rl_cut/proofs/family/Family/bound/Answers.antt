@@ -1,7 +1,7 @@
-use Rattle.std.proofs.Common.{◌≡◌, ◌<◌, ◌≤◌, ap, sym, subst, ◌∙◌, arith, ℕ}
+use Rattle.std.proofs.Common.{◌≡◌, ◌<◌, ap, sym, ◌∙◌, arith, ℕ}
 use Rattle.rl_base.specs.declared.bound.Bound.TheVariants.{Final, Rising}
-use Rattle.rl_families.specs.Families.{bound_of, least_top}
-use Rattle.rl_cut.specs.Kept.{least_seq}
+use Rattle.rl_families.specs.Logs.{last_seq_among}
+use Rattle.rl_families.specs.Families.{all_reached, bound_of, least_top}
 use Rattle.rl_cut.proofs.LastStamps.{least_seq_is}
 use Rattle.rl_cut.proofs.Growing.{bound_final, bound_rising}
 use Rattle.rl_cut.proofs.family.Family.bound.Goals as goal
@@ -12,8 +12,9 @@ returns-then-epoch-top-2 c =
     let k = c.self.invariant in
     let e = c.args.epoch in
     let top : c.self.inside.mark.0 ≡ least_top logs = ap (λ (m : ℕ × ℕ). m.0) k.mark in
-    let seq = c.least_seq-seq.ensures ∙ ap (λ z. least_seq z e) c.deref.ensures.value ∙ least_seq_is logs c.self.inside.reached.items k.streams k.reached e in
+    let under : e < c.self.inside.mark.0 = omega (arith, c.if-epoch-top-2.true) in
     let below : e < least_top logs = omega (arith, c.if-epoch-top-2.true) in
+    let seq = c.last_seq.ensures ∙ ap (λ z. last_seq_among z e) c.deref.ensures.value ∙ k.settled.bounds e under ∙ least_seq_is logs c.self.inside.reached.items k.streams k.reached e in
     ap Final seq ∙ bound_final logs e below ∙ ap (λ f. bound_of f e) c.self.view_is
 
 pub returns-else-epoch-top-2 : goal.returns-else-epoch-top-2
@@ -22,6 +23,6 @@ returns-else-epoch-top-2 c =
     let k = c.self.invariant in
     let e = c.args.epoch in
     let top : c.self.inside.mark.0 ≡ least_top logs = ap (λ (m : ℕ × ℕ). m.0) k.mark in
-    let seq = c.least_seq-seq.ensures ∙ ap (λ z. least_seq z e) c.deref.ensures.value ∙ least_seq_is logs c.self.inside.reached.items k.streams k.reached e in
-    let same : e ≡ least_top logs = omega (arith, c.if-epoch-top-2.false, c.if-epoch-top.false) in
-    ap Rising seq ∙ bound_rising logs e same ∙ ap (λ f. bound_of f e) c.self.view_is
+    let here : e ≡ least_top logs = omega (arith, c.if-epoch-top-2.false, c.if-epoch-top.false) in
+    let same : e ≡ least_top c.args.self.now = here ∙ ap least_top c.self.view_is in
+    ap Rising (c.seq_at_top.ensures ∙ ap (all_reached c.args.self.now) (sym same)) ∙ bound_rising c.args.self.now e same

@@ -1,4 +1,4 @@
-use Rattle.std.proofs.Common.{sym, subst, ◌∙◌}
+use Rattle.std.proofs.Common.{sym, subst}
 use Rattle.std.specs.List.{filter, flat_map}
 use Rattle.rl_txn.specs.declared.item.Item.{Item}
 use Rattle.rl_families.specs.Logs.{items_along}
