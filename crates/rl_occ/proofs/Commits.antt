@@ -74,6 +74,7 @@ module _ (a : AttemptOf) (locks : List Lock) (words : List Seen) (reply : Reply)
     pub is_committed : (d : Decided) → d.stamp ≡ record { epoch = a.store.made.epoch; seq = seq } → d.reply ≡ reply → d.writes ≡ writes → (2 ≤ seq) × (seq + 2 ≤ 2 ^ 40) → IsAbove a.view t → 0 < a.view.tries
         → w ≡ settled (all_closed a.tables (settled (all_valid drawn)) writes) → IsCommitted a w d
     is_committed d stamp replied written bounds above left end = record {
+      inside = seen.below;
       run = λ rows r. (λ i. (replied i, written i)) ∙ run.run rows r;
       epoch = ap (λ (s : Stamp). s.epoch) stamp;
       seq = subst (λ (s : Stamp). (2 ≤ s.seq) × (s.seq + 2 ≤ 2 ^ 40)) (sym stamp) bounds;

@@ -1,18 +1,20 @@
 -- An attempt as contracts see it, and what each of its calls leaves.
-use Rattle.std.specs.Prelude.{◌≡◌, ◌≢◌, ℕ, ◌+◌, ◌-◌, ◌*◌, ◌%◌, ◌^◌, ◌<◌, ◌≤◌, List, [], ◌∷◌, ◌++◌, map, Some, Result, Ok, Err}
+use Rattle.std.specs.Prelude.{◌≡◌, ◌≢◌, ℕ, ◌+◌, ◌-◌, ◌*◌, ◌%◌, ◌^◌, ◌<◌, ◌≤◌, List, [], ◌∷◌, ◌++◌, map, sum, Some, Result, Ok, Err}
 use Rattle.rl_base.specs.Stamps.{packed}
 use Rattle.rl_base.specs.declared.refusal.Refusal.{Refusal}
 use Rattle.rl_base.specs.declared.refusal.Refusal.TheVariants.{Locked, Changed}
 use Rattle.rl_value.specs.Rows.{Rows}
 use Rattle.rl_value.specs.Tables.{Table}
+use Rattle.rl_tables.specs.Numbers.{sizes_of}
 use Rattle.rl_txn.specs.Run.{run}
 use Rattle.rl_txn.specs.declared.op.Op.{Op}
 use Rattle.rl_txn.specs.declared.write.Write as txn
 use Rattle.rl_store.specs.declared.spent.DrawStop.{DrawStop}
 use Rattle.rl_store.specs.declared.spent.DrawStop.TheVariants.{Above as AboveStop, TriesSpent as SpentStop}
+use Rattle.rl_store.specs.declared.view.Read.{Read}
 use Rattle.rl_store.specs.declared.view.Refused.{Refused}
 use Rattle.rl_store.specs.declared.view.View.{View}
-use Rattle.rl_store.specs.Entries.{Holds}
+use Rattle.rl_store.specs.Entries.{Holds, In}
 use Rattle.rl_store.specs.Passes.{IsAbove, IsLockedRefusal, PassOf, StoreOf}
 use Rattle.rl_store.specs.Refusals.{why}
 use Rattle.rl_store.specs.Views.{above_at, blank, rested, stopped, with_draw}
@@ -55,9 +57,10 @@ with_commit tables v stamp writes = record v {
 abbrev pub with_loss : (v : View) (why : Refused) → View
 with_loss v why = record v { tries = v.tries - 1; draws = v.draws + 1; refusals = v.refusals + 1; last = Some why; attempt = blank }
 
--- what was decided: the reply and the writes are those of the run on any rows that have what was read, and the item
--- has its stamp, reads and writes
+-- what was decided: what was read are records of the tables, the reply and the writes are those of the run on any rows
+-- that have it, and the item has its stamp, reads and writes
 pub record IsCommitted (a : AttemptOf) (v : View) (d : Decided) : Type 0 where
+  pub inside : (x : Read) → In x a.view.attempt.reads → x.rec < sum (sizes_of a.tables)
   pub run : (rows : Rows) → HasRowsRead a.tables a.view.attempt.reads rows → (d.reply, d.writes) ≡ run a.tables a.txn rows
   pub epoch : d.stamp.epoch ≡ a.store.made.epoch
   pub seq : (2 ≤ d.stamp.seq) × (d.stamp.seq + 2 ≤ 2 ^ 40)
