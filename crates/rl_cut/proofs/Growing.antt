@@ -21,7 +21,7 @@ use Rattle.rl_base.proofs.Members.{In, contains_in, all_in}
 use Rattle.rl_families.proofs.Logs.{item_stamp, stamps_along-append, items_along-append}
 use Rattle.rl_families.proofs.Rising.{Rises, rises_from, rises_front, rises_back, above_in, below_last, last_is}
 use Rattle.rl_families.proofs.Sorting.{Sorted, Least}
-use Rattle.rl_cut.specs.Kept.{AreByEpoch, AreLastOf, least_epoch, least_seq, counts_now, mark_of, AreSettled, AreUpTo, Keeps, HasGrown}
+use Rattle.rl_cut.specs.Kept.{AreByEpoch, AreLastOf, least_epoch, least_seq, counts_now, mark_of, AreSettled, AreUpTo, FitsLogs, Keeps, HasGrown}
 use Rattle.rl_cut.proofs.LastStamps.{last_same, lasts_trans, lasts_append, least_epoch_is, least_seq_is, mark_is}
 use Rattle.rl_cut.proofs.Counting.{filter_none, up_to_down, history_grows, top_rises, settled_stays, mark_grows, now_low, not_again, now_tells}
 
@@ -149,8 +149,8 @@ module _ (logs : List (List Batch)) (reached : List (List Stamp)) (settled : Lis
   here : AreLastOf (stamps_along (get_or (slice_set logs i (get_or logs i [] ++ b ∷ [])) i [])) (get_or (slice_set reached i lasts) i [])
   here =
       let known : AreLastOf (stamps_along (get_or logs i []) ++ stamps_in_batch b) lasts =
-      lasts_trans (stamps_along (get_or logs i []) ++ stamps_in_batch b) (get_or reached i [] ++ stamps_in_batch b) lasts (lasts_append (stamps_along (get_or logs i [])) (get_or reached i []) (stamps_in_batch b) (k.reached i)) a in
-      let within : i < length reached = omega (arith, k.streams) in
+      lasts_trans (stamps_along (get_or logs i []) ++ stamps_in_batch b) (get_or reached i [] ++ stamps_in_batch b) lasts (lasts_append (stamps_along (get_or logs i [])) (get_or reached i []) (stamps_in_batch b) (k.fits.reached i)) a in
+      let within : i < length reached = omega (arith, k.fits.streams) in
       subst (λ z. AreLastOf (stamps_along z) (get_or (slice_set reached i lasts) i [])) (sym same)
       (subst (AreLastOf (stamps_along (get_or logs i [] ++ b ∷ []))) (sym (get_or-set_same reached i lasts [] within)) (subst (λ z. AreLastOf z lasts) (sym stamps) known))
 
@@ -161,13 +161,13 @@ module _ (logs : List (List Batch)) (reached : List (List Stamp)) (settled : Lis
   }
 
   streams_now : length (slice_set reached i lasts) ≡ length (slice_set logs i (get_or logs i [] ++ b ∷ []))
-  streams_now = length-set reached i lasts ∙ k.streams ∙ sym (length-set logs i (get_or logs i [] ++ b ∷ []))
+  streams_now = length-set reached i lasts ∙ k.fits.streams ∙ sym (length-set logs i (get_or logs i [] ++ b ∷ []))
 
   reached_now : (j : ℕ) → AreLastOf (stamps_along (get_or (slice_set logs i (get_or logs i [] ++ b ∷ [])) j [])) (get_or (slice_set reached i lasts) j [])
   reached_now j = elim (eqb_tells j i) [
     | inl e ↦ subst (λ z. AreLastOf (stamps_along (get_or (slice_set logs i (get_or logs i [] ++ b ∷ [])) z [])) (get_or (slice_set reached i lasts) z [])) (sym e.1) here
     | inr n ↦ subst (λ z. AreLastOf (stamps_along z) (get_or (slice_set reached i lasts) j [])) (sym (get_or-set_other logs i j (get_or logs i [] ++ b ∷ []) [] n.1))
-        (subst (AreLastOf (stamps_along (get_or logs j []))) (sym (get_or-set_other reached i j lasts [] n.1)) (k.reached j))
+        (subst (AreLastOf (stamps_along (get_or logs j []))) (sym (get_or-set_other reached i j lasts [] n.1)) (k.fits.reached j))
   ]
 
   top_is : mark.0 ≡ least_top logs
@@ -175,29 +175,34 @@ module _ (logs : List (List Batch)) (reached : List (List Stamp)) (settled : Lis
 
   settled_now : AreSettled (slice_set reached i lasts) mark.0 settled
   settled_now = record {
-    epochs = k.settled.epochs;
-    below = k.settled.below;
-    bounds = λ e u. k.settled.bounds e u ∙ least_seq_is logs reached k.streams k.reached e
+    epochs = k.fits.settled.epochs;
+    below = k.fits.settled.below;
+    bounds = λ e u. k.fits.settled.bounds e u ∙ least_seq_is logs reached k.fits.streams k.fits.reached e
         ∙ sym (settled_stays logs (slice_set logs i (get_or logs i [] ++ b ∷ [])) (inside_set logs i b) rising e (subst (λ n. e < n) top_is u))
         ∙ sym (least_seq_is (slice_set logs i (get_or logs i [] ++ b ∷ [])) (slice_set reached i lasts) streams_now reached_now e);
   }
 
-  pub has_grown : HasGrown (slice_set logs i (get_or logs i [] ++ b ∷ [])) (slice_set reached i lasts) settled counted mark items
-  has_grown = record {
+  fits_now : FitsLogs (slice_set logs i (get_or logs i [] ++ b ∷ [])) (slice_set reached i lasts) settled counted mark
+  fits_now = record {
     rising = rising;
     streams = streams_now;
-    places = k.places ∙ sym (length-set logs i (get_or logs i [] ++ b ∷ []));
+    places = k.fits.places ∙ sym (length-set logs i (get_or logs i [] ++ b ∷ []));
     reached = reached_now;
-    epochs = All-set AreByEpoch reached i lasts climb k.epochs;
+    epochs = All-set AreByEpoch reached i lasts climb k.fits.epochs;
     settled = settled_now;
+    counted = λ j. elim (eqb_tells j i) [
+      | inl e ↦ subst (λ z. AreUpTo mark (get_or (slice_set logs i (get_or logs i [] ++ b ∷ [])) z []) (get_or counted z 0)) (sym e.1)
+          (subst (λ z. AreUpTo mark z (get_or counted i 0)) (sym same) (longer (get_or logs i []) (get_or counted i 0) (k.fits.counted i)))
+      | inr n ↦ subst (λ z. AreUpTo mark z (get_or counted j 0)) (sym (get_or-set_other logs i j (get_or logs i [] ++ b ∷ []) [] n.1)) (k.fits.counted j)
+    ];
+  }
+
+  pub has_grown : HasGrown (slice_set logs i (get_or logs i [] ++ b ∷ [])) (slice_set reached i lasts) settled counted mark items
+  has_grown = record {
+    fits = fits_now;
     rises = subst (λ n. n ≤ least_epoch (slice_set reached i lasts)) (sym top_is)
         (subst (λ n. least_top logs ≤ n) (sym (least_epoch_is (slice_set logs i (get_or logs i [] ++ b ∷ [])) (slice_set reached i lasts) streams_now reached_now))
         (top_rises logs (slice_set logs i (get_or logs i [] ++ b ∷ [])) (inside_set logs i b) rising));
-    counted = λ j. elim (eqb_tells j i) [
-      | inl e ↦ subst (λ z. AreUpTo mark (get_or (slice_set logs i (get_or logs i [] ++ b ∷ [])) z []) (get_or counted z 0)) (sym e.1)
-          (subst (λ z. AreUpTo mark z (get_or counted i 0)) (sym same) (longer (get_or logs i []) (get_or counted i 0) (k.counted i)))
-      | inr n ↦ subst (λ z. AreUpTo mark z (get_or counted j 0)) (sym (get_or-set_other logs i j (get_or logs i [] ++ b ∷ []) [] n.1)) (k.counted j)
-    ];
     smaller = logs;
     inside = inside_set logs i b;
     mark = k.mark;
@@ -212,10 +217,10 @@ module _ (logs : List (List Batch)) (reached : List (List Stamp)) (settled more 
       let new : Item → Bool = λ x. counts_now mark now more x.stamp in
       let later : Item → Bool = λ x. is_counted logs x.stamp && not (is_up_to_watermark (watermark g.smaller) x.stamp) in
       let agree : (x : Item) → new x ≡ later x = λ x. now_tells reached mark now more x.stamp n bounds ∙ tests (least_epoch reached) (least_top logs) (least_seq reached x.stamp.epoch) (all_reached logs x.stamp.epoch) mark (watermark g.smaller) x.stamp
-      (least_epoch_is logs reached g.streams g.reached) (least_seq_is logs reached g.streams g.reached x.stamp.epoch) g.mark in
+      (least_epoch_is logs reached g.fits.streams g.fits.reached) (least_seq_is logs reached g.fits.streams g.fits.reached x.stamp.epoch) g.mark in
       ap (λ z. z ++ in_order (filter new (flat_map items_along logs))) g.history
       ∙ ap (λ z. history g.smaller ++ in_order z) (filter_agree new later agree (flat_map items_along logs))
-      ∙ sym (history_grows g.smaller logs g.inside g.rising)
+      ∙ sym (history_grows g.smaller logs g.inside g.fits.rising)
     where
       tests : (t u q r : ℕ) (m n : ℕ × ℕ) (s : Stamp) → t ≡ u → q ≡ r → m ≡ n
           → ((nat_lt 0 s.epoch && (nat_le s.epoch t && nat_le s.seq q)) && not (is_up_to_watermark m s)) ≡ ((nat_lt 0 s.epoch && (nat_le s.epoch u && nat_le s.seq r)) && not (is_up_to_watermark n s))
@@ -227,14 +232,16 @@ module _ (logs : List (List Batch)) (reached : List (List Stamp)) (settled more 
   pub keeps_now : (counts : List ℕ) (all : List Item) → length counts ≡ length counted → ((i : ℕ) → AreUpTo now (get_or logs i []) (get_or counts i 0)) → all ≡ items ++ in_order (filter (λ x. counts_now mark now more x.stamp) (flat_map items_along logs))
       → Keeps logs reached more counts now all
   keeps_now counts all l u h = record {
-    rising = g.rising;
-    streams = g.streams;
-    places = l ∙ g.places;
-    reached = g.reached;
-    epochs = g.epochs;
-    settled = bounds;
-    counted = u;
-    mark = n ∙ mark_is logs reached g.streams g.reached;
+    fits = record {
+      rising = g.fits.rising;
+      streams = g.fits.streams;
+      places = l ∙ g.fits.places;
+      reached = g.fits.reached;
+      epochs = g.fits.epochs;
+      settled = bounds;
+      counted = u;
+    };
+    mark = n ∙ mark_is logs reached g.fits.streams g.fits.reached;
     history = h ∙ history_now;
   }
 
@@ -242,8 +249,8 @@ pub now_grown : (logs : List (List Batch)) (reached : List (List Stamp)) (settle
     → (i : ℕ) → AreUpTo now (get_or logs i []) (get_or counted i 0)
 now_grown logs reached settled counted mark now items g n i =
     up_to_later mark now (get_or logs i []) (get_or counted i 0)
-    (λ s u. subst (λ z. is_up_to_watermark z s ≡ true) (sym (n ∙ mark_is logs reached g.streams g.reached)) (mark_grows g.smaller logs g.inside g.rising s (subst (λ z. is_up_to_watermark z s ≡ true) g.mark u)))
-    (g.counted i)
+    (λ s u. subst (λ z. is_up_to_watermark z s ≡ true) (sym (n ∙ mark_is logs reached g.fits.streams g.fits.reached)) (mark_grows g.smaller logs g.inside g.fits.rising s (subst (λ z. is_up_to_watermark z s ≡ true) g.mark u)))
+    (g.fits.counted i)
 
 -- ---- at the start ----
 pub keeps_none : (logs : List (List Batch)) (reached : List (List Stamp)) (settled : List Stamp) (counted : List ℕ) (items : List Item) (n : ℕ) → logs ≡ replicate n [] → reached ≡ replicate n [] → settled ≡ [] → counted ≡ replicate n 0 → items ≡ []
@@ -254,13 +261,15 @@ keeps_none logs reached settled counted items n a b d c e =
     (subst (λ z. Keeps (replicate n []) (replicate n []) z counted (0, 0) items) (sym d)
     (subst (λ z. Keeps (replicate n []) (replicate n []) [] z (0, 0) items) (sym c)
     (subst (Keeps (replicate n []) (replicate n []) [] (replicate n 0) (0, 0)) (sym e) (record {
-      rising = λ k d l. subst (λ z. IsRising (stamps_along z)) (sym (get_or-replicate n k [] d (omega (arith, length-replicate n none)))) nothing;
-      streams = length-replicate n none_stamps ∙ sym (length-replicate n none);
-      places = length-replicate n 0 ∙ sym (length-replicate n none);
-      reached = λ i. subst (λ z. AreLastOf (stamps_along z) (get_or (replicate n []) i [])) (sym (empty n i)) (subst (AreLastOf []) (sym (empty_stamps n i)) (last_same []));
-      counted = λ i. subst (λ z. AreUpTo (0, 0) z (get_or (replicate n 0) i 0)) (sym (empty n i)) (subst (AreUpTo (0, 0) []) (sym (zeros n i)) (record { within = omega arith; up_to = λ k d l. absurd (omega arith) }));
-      epochs = λ k d l. subst AreByEpoch (sym (get_or-replicate n k [] d (omega (arith, length-replicate n none_stamps)))) no_pairs;
-      settled = record { epochs = no_pairs; below = λ k d l. absurd (omega arith); bounds = λ k l. absurd (omega arith) };
+      fits = record {
+        rising = λ k d l. subst (λ z. IsRising (stamps_along z)) (sym (get_or-replicate n k [] d (omega (arith, length-replicate n none)))) nothing;
+        streams = length-replicate n none_stamps ∙ sym (length-replicate n none);
+        places = length-replicate n 0 ∙ sym (length-replicate n none);
+        reached = λ i. subst (λ z. AreLastOf (stamps_along z) (get_or (replicate n []) i [])) (sym (empty n i)) (subst (AreLastOf []) (sym (empty_stamps n i)) (last_same []));
+        counted = λ i. subst (λ z. AreUpTo (0, 0) z (get_or (replicate n 0) i 0)) (sym (empty n i)) (subst (AreUpTo (0, 0) []) (sym (zeros n i)) (record { within = omega arith; up_to = λ k d l. absurd (omega arith) }));
+        epochs = λ k d l. subst AreByEpoch (sym (get_or-replicate n k [] d (omega (arith, length-replicate n none_stamps)))) no_pairs;
+        settled = record { epochs = no_pairs; below = λ k d l. absurd (omega arith); bounds = λ k l. absurd (omega arith) };
+      };
       mark = sym (first n);
       history = sym (no_history n);
     })))))

@@ -55,9 +55,10 @@ pub record AreUpTo (mark : ℕ × ℕ) (log : List Batch) (count : ℕ) : Type 0
   pub within : count ≤ length log
   pub up_to : All (λ s. is_up_to_watermark mark s ≡ true) (stamps_along (take count log))
 
--- what a family keeps of its logs
-pub record Keeps (logs : List (List Batch)) (lasts : List (List Stamp)) (bounds : List Stamp)
-    (counts : List ℕ) (m : ℕ × ℕ) (items : List Item) : Type 0 where
+-- what is kept of each stream fits its log: its last stamps, the bounds of the epochs below the
+-- watermark's, and how many first batches are wholly up to the watermark
+pub record FitsLogs (logs : List (List Batch)) (lasts : List (List Stamp)) (bounds : List Stamp)
+    (counts : List ℕ) (m : ℕ × ℕ) : Type 0 where
   pub rising : AllRise logs
   pub streams : length lasts ≡ length logs
   pub places : length counts ≡ length logs
@@ -65,20 +66,19 @@ pub record Keeps (logs : List (List Batch)) (lasts : List (List Stamp)) (bounds 
   pub epochs : All AreByEpoch lasts
   pub settled : AreSettled lasts m.0 bounds
   pub counted : (i : ℕ) → AreUpTo m (slice_index_or logs i []) (slice_index counts i)
+
+-- what a family keeps of its logs
+pub record Keeps (logs : List (List Batch)) (lasts : List (List Stamp)) (bounds : List Stamp)
+    (counts : List ℕ) (m : ℕ × ℕ) (items : List Item) : Type 0 where
+  pub fits : FitsLogs logs lasts bounds counts m
   pub mark : m ≡ watermark logs
   pub history : items ≡ history logs
 
 -- the same where the logs have grown since
 pub record HasGrown (logs : List (List Batch)) (lasts : List (List Stamp)) (bounds : List Stamp)
     (counts : List ℕ) (m : ℕ × ℕ) (items : List Item) : Type 0 where
-  pub rising : AllRise logs
-  pub streams : length lasts ≡ length logs
-  pub places : length counts ≡ length logs
-  pub reached : (i : ℕ) → AreLastOf (stamps_along (slice_index_or logs i [])) (slice_index_or lasts i [])
-  pub epochs : All AreByEpoch lasts
-  pub settled : AreSettled lasts m.0 bounds
+  pub fits : FitsLogs logs lasts bounds counts m
   pub rises : m.0 ≤ least_epoch lasts
-  pub counted : (i : ℕ) → AreUpTo m (slice_index_or logs i []) (slice_index counts i)
   pub smaller : List (List Batch)
   pub inside : IsInside smaller logs
   pub mark : m ≡ watermark smaller

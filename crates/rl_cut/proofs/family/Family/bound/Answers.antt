@@ -14,7 +14,7 @@ returns-then-epoch-top-2 c =
     let top : c.self.inside.mark.0 ≡ least_top logs = ap (λ (m : ℕ × ℕ). m.0) k.mark in
     let under : e < c.self.inside.mark.0 = omega (arith, c.if-epoch-top-2.true) in
     let below : e < least_top logs = omega (arith, c.if-epoch-top-2.true) in
-    let seq = c.last_seq.ensures ∙ ap (λ z. last_seq_among z e) c.deref.ensures.value ∙ k.settled.bounds e under ∙ least_seq_is logs c.self.inside.reached.items k.streams k.reached e in
+    let seq = c.last_seq.ensures ∙ ap (λ z. last_seq_among z e) c.deref.ensures.value ∙ k.fits.settled.bounds e under ∙ least_seq_is logs c.self.inside.reached.items k.fits.streams k.fits.reached e in
     ap Final seq ∙ bound_final logs e below ∙ ap (λ f. bound_of f e) c.self.view_is
 
 pub returns-else-epoch-top-2 : goal.returns-else-epoch-top-2
