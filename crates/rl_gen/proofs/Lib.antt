@@ -1,0 +1,5 @@
+pub mod Balances
+pub mod Dealt
+pub mod EventsFit
+pub mod Fits
+pub mod Repeats

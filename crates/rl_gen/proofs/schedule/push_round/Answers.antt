@@ -1,0 +1,6 @@
+use Rattle.rl_events.specs.declared.event.Event.TheVariants.{Step}
+use Rattle.rl_gen.proofs.Repeats.{of_the_next}
+use Rattle.rl_gen.proofs.schedule.push_round.Goals as goal
+
+pub loop-done-preserved : goal.loop-done-preserved
+loop-done-preserved c = of_the_next (λ w. Step 1 w 5) c.loop-done.done _ _ _ c.loop-done.invariant c.in_ok-push.ensures.ok
