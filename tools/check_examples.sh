@@ -16,7 +16,7 @@ if [ ! -x "$binary" ]; then
 fi
 
 # check STATUS OUT SCRIPT WORD..: runs the program by the words on a script, and compares its status, and its output
-# with a file where there is one.
+# with a file.
 check() {
   local wanted=$1 out=$2 script=$3 status
   shift 3
@@ -24,7 +24,9 @@ check() {
   status=$?
   if [ "$status" -ne "$wanted" ]; then
     echo "${script#"$top"/}, rolis $*: status $status, and $wanted is due"
-  elif [ -e "$out" ] && ! cmp -s "$told" "$out"; then
+  elif [ ! -e "$out" ]; then
+    echo "${out#"$top"/} is missing: what rolis $* has to print"
+  elif ! cmp -s "$told" "$out"; then
     echo "${script#"$top"/}, rolis $*: not what ${out#"$top"/} has:"
     diff "$told" "$out" | head -n 5
   else
