@@ -274,4 +274,5 @@ module _ (setup : Setup) (sized : SetupFits setup) (events : List Event) (fits :
 pub led_runs_are_safe : LedRunsAreSafe
 led_runs_are_safe led setup events w sized fits is =
     let k = all_known setup sized events fits w is in
-    safe setup sized events fits w is (led setup events w sized fits is) k.0 k.1
+    safe setup sized events fits w is
+    (led (record { setup = setup; events = events; world = w; setup_fits = sized; events_fit = fits; ends = is })) k.0 k.1

@@ -20,6 +20,7 @@ pub mod CoreTurns
 pub mod Drives
 pub mod Encodings
 pub mod Fits
+pub mod Happens
 pub mod JoinedSafe
 pub mod KnownGrowth
 pub mod KnownLists

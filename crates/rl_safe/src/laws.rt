@@ -2,6 +2,7 @@
 
 ghost use Rattle.rl_nodes.specs.Laws.{EveryRunIsSafe};
 ghost use Rattle.rl_safe.specs.Laws.{RunsAreLed, LedRunsAreSafe};
+ghost use Rattle.rl_safe.specs.Runs.{SomeRunReleases};
 
 use rl_batch::laws as batches;
 use rl_election::laws as streams;
@@ -35,4 +36,9 @@ pub fn runs_are_led()
 /// Where the logs of each run's leaders are as the laws of families ask, every run is safe.
 pub fn led_runs_are_safe()
     ensures { LedRunsAreSafe }
+{}
+
+/// There is a run in which two leaders release items, one after the other: so what every run is promised is not promised of none.
+pub fn something_happens()
+    ensures { SomeRunReleases }
 {}
