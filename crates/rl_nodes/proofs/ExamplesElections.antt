@@ -14,7 +14,7 @@ use Rattle.rl_nodes.specs.declared.view.Role.TheVariants.{Follower, Candidate, L
 use Rattle.rl_nodes.specs.World.{MessageDenied, LeaderOpened, NodeShown}
 
 -- Epoch 1 came to seq 4 on one stream and to seq 3 on the other: the item (1, 4) is cut, and its request runs again in epoch 2.
-abbrev cut_script : Script
+abbrev pub cut_script : Script
 cut_script = record {
   nodes = 3;
   quorums = (2, 2);
@@ -25,14 +25,14 @@ cut_script = record {
   lists = ((Put 0 (Num 0) ((Num 5) ∷ []) ∷ []) ∷ (Put 0 (Num 1) ((Num 7) ∷ []) ∷ []) ∷ []) ∷ ((Put 0 (Num 0) ((Num 6) ∷ []) ∷ []) ∷ []) ∷ [];
 }
 
-abbrev cut_events : List Event
+abbrev pub cut_events : List Event
 cut_events =
     event.Elect 1 ∷ event.All ∷ event.All ∷ event.All ∷ event.All ∷ event.Step 1 1 5 ∷
     event.Step 1 2 5 ∷ event.Step 1 1 5 ∷ event.All ∷ event.All ∷ event.Crash 1 ∷
     event.Elect 2 ∷ event.All ∷ event.All ∷ event.All ∷ event.All ∷ event.Step 2 1 5 ∷
     event.Idle 2 2 ∷ event.All ∷ event.All ∷ event.All ∷ event.PlayAll 2 ∷ event.PlayAll 3 ∷ []
 
-abbrev cut_report : ByWrites
+abbrev pub cut_report : ByWrites
 cut_report rows = shown
     (
     LeaderOpened 1 1 0
@@ -49,7 +49,7 @@ cut_report rows = shown
     ∷ up 3 2 Follower (2, 2) true (stream 2 5 5 ∷ stream 2 4 4 ∷ []) (rows (((0, 0), 5 ∷ []) ∷ ((0, 1), 7 ∷ []) ∷ ((0, 0), 6 ∷ []) ∷ []))
     ∷ [])
 
-cut : Reports cut_script cut_events cut_report
+pub cut : Reports cut_script cut_events cut_report
 unfolding whole within number string series several batch rising numbers row write writes item items mark op_done ops_listed read_listed
 cut = computed cut_script cut_events cut_report refl
 

@@ -46,9 +46,24 @@ use Rattle.rl_safe.proofs.KnownGrowth.{ChosenAt, ChosenPart, LeaderPart, leader_
 use Rattle.rl_safe.proofs.KnownNodes.{family_of, AreStamped, NodeOk}
 use Rattle.rl_safe.proofs.KnownWorlds.{IsGiven, AllKnown, all_known}
 
+-- ---- the longest chosen logs ----
+
 module _ (setup : Setup) (sized : SetupFits setup) (events : List Event) (fits : All (EventFits setup.nodes setup.workers) events)
-    (w : World) (is : world_after setup events ≡ Ok w)
-    (led : IsLed setup w) (tied : TiedRun setup w) (known : AllKnown setup w) where
+    (w : World) (is : world_after setup events ≡ Ok w) where
+  picks : (s : ℕ) (b : Bool) → is_node setup.workers s ≡ b
+      → (log : bytes.Log) × (b ≡ true → IsLongestChosen (cluster_of setup) (stream_world setup w) s log)
+  picks s false other = ([], λ t. absurd (true≢false (sym t)))
+  picks s true there =
+      let k = runs_have_chosen setup events w sized fits is s (in_contains (stream_numbers setup) s (numbers_in setup.workers s there)) in
+      (k.0, λ t. k.1)
+
+  pub chosen_logs : (log : ℕ → bytes.Log)
+      × ((s : ℕ) → is_node setup.workers s ≡ true → IsLongestChosen (cluster_of setup) (stream_world setup w) s (log s))
+  chosen_logs = (λ s. (picks s (is_node setup.workers s) refl).0, λ s there. (picks s (is_node setup.workers s) refl).1 there)
+
+module _ (setup : Setup) (sized : SetupFits setup) (w : World) (led : IsLed setup w) (tied : TiedRun setup w) (known : AllKnown setup w)
+    (chosen : ℕ → bytes.Log)
+    (longest : (s : ℕ) → is_node setup.workers s ≡ true → IsLongestChosen (cluster_of setup) (stream_world setup w) s (chosen s)) where
   abbrev v : StreamWorld
   v = stream_world setup w
 
@@ -59,29 +74,13 @@ module _ (setup : Setup) (sized : SetupFits setup) (events : List Event) (fits :
   listed : (s : ℕ) → There s → Contains (stream_numbers setup) s
   listed s there = in_contains (stream_numbers setup) s (numbers_in setup.workers s there)
 
-  -- ---- the longest chosen logs ----
-
-  abbrev pick : (s : ℕ) (b : Bool) → is_node setup.workers s ≡ b → bytes.Log
-  pick s true there = (runs_have_chosen setup events w sized fits is s (listed s there)).0
-  pick s false other = []
-
-  abbrev chosen : ℕ → bytes.Log
-  chosen s = pick s (is_node setup.workers s) refl
-
-  picked : (s : ℕ) (b : Bool) (e : is_node setup.workers s ≡ b) → b ≡ true → IsLongestChosen (cluster_of setup) v s (pick s b e)
-  picked s true e t = (runs_have_chosen setup events w sized fits is s (listed s e)).1
-  picked s false e t = absurd (true≢false (sym t))
-
-  longest : (s : ℕ) → There s → IsLongestChosen (cluster_of setup) v s (chosen s)
-  longest s there = picked s (is_node setup.workers s) refl there
-
   -- what is chosen begins them
-  chosen_in : (e s : ℕ) (log : bytes.Log) → There s → ChosenAt (cluster_of setup) v e s log → IsPrefix log (chosen s)
+  pub chosen_in : (e s : ℕ) (log : bytes.Log) → There s → ChosenAt (cluster_of setup) v e s log → IsPrefix log (chosen s)
   chosen_in e s log there k =
       let c = begins_choice (cluster_of setup) v e s log k in
       prefix_trans log c.0 (chosen s) c.2 ((longest s there).above e c.0 c.1)
 
-  part_in : (s : ℕ) (log : bytes.Log) → There s → ChosenPart (cluster_of setup) v s log → IsPrefix log (chosen s)
+  pub part_in : (s : ℕ) (log : bytes.Log) → There s → ChosenPart (cluster_of setup) v s log → IsPrefix log (chosen s)
   part_in s log there k = elim k [
     | inl e ↦ subst (λ l. IsPrefix l (chosen s)) (sym e) (chosen s, refl)
     | inr c ↦ chosen_in c.0 s log there c.1
@@ -89,7 +88,7 @@ module _ (setup : Setup) (sized : SetupFits setup) (events : List Event) (fits :
 
   -- ---- the logs of leaders ----
 
-  chosen_parts : (s : ℕ) → There s → LeaderPart v s (chosen s)
+  pub chosen_parts : (s : ℕ) → There s → LeaderPart v s (chosen s)
   chosen_parts s there = elim (longest s there).from [
     | inl e ↦ inl e
     | inr c ↦ inr (record {
@@ -101,7 +100,7 @@ module _ (setup : Setup) (sized : SetupFits setup) (events : List Event) (fits :
   ]
 
   -- their batches are prefixes of what leaders proposed
-  are_prefixes : (f : ℕ → bytes.Log) → ((s : ℕ) → There s → LeaderPart v s (f s))
+  pub are_prefixes : (f : ℕ → bytes.Log) → ((s : ℕ) → There s → LeaderPart v s (f s))
       → ArePrefixesOfLeaders led.leaders setup.workers (λ s. batches_of (f s))
   are_prefixes f parts s low high =
       let there : There s = both_true _ _ (le-leb 1 s low) (le-leb s setup.workers high) in
@@ -115,18 +114,18 @@ module _ (setup : Setup) (sized : SetupFits setup) (events : List Event) (fits :
         )
       ]
 
-  logs_rise : (f : ℕ → bytes.Log) → ((s : ℕ) → There s → LeaderPart v s (f s))
+  pub logs_rise : (f : ℕ → bytes.Log) → ((s : ℕ) → There s → LeaderPart v s (f s))
       → LogsOfLeaders led.leaders setup.workers (λ s. batches_of (f s))
   logs_rise f parts = leaders_logs_rise led.leaders setup.workers led.are_leaders (λ s. batches_of (f s)) (are_prefixes f parts)
 
-  same_family : (f : ℕ → bytes.Log) → logs_of_streams setup.workers (λ s. batches_of (f s)) ≡ family_of setup f
+  pub same_family : (f : ℕ → bytes.Log) → logs_of_streams setup.workers (λ s. batches_of (f s)) ≡ family_of setup f
   same_family f = sym (logs_are setup.workers (λ s. batches_of (f s)))
 
   stamped : AreStamped setup v
   stamped f parts = subst IsStamped (same_family f) (logs_rise f parts).stamped
 
   -- where logs begin such logs, so does their history
-  nests : (f h : ℕ → bytes.Log) → ((s : ℕ) → There s → IsPrefix (f s) (h s)) → ((s : ℕ) → There s → LeaderPart v s (h s))
+  pub nests : (f h : ℕ → bytes.Log) → ((s : ℕ) → There s → IsPrefix (f s) (h s)) → ((s : ℕ) → There s → LeaderPart v s (h s))
       → IsPrefix (history (family_of setup f)) (history (family_of setup h))
   nests f h begin parts =
       history_nests (family_of setup f) (family_of setup h)
@@ -148,12 +147,12 @@ module _ (setup : Setup) (sized : SetupFits setup) (events : List Event) (fits :
   rising : IsRising (map (λ x. x.stamp) whole)
   rising = subst (λ family. IsRising (map (λ x. x.stamp) (history family))) (same_family chosen) (logs_rise chosen chosen_parts).rising
 
-  given_in : (given : Given) → IsGiven setup v given → IsPrefix given.history whole
+  pub given_in : (given : Given) → IsGiven setup v given → IsPrefix given.history whole
   given_in given k =
       subst (λ items. IsPrefix items whole) (sym k.is)
       (nests k.log chosen (λ s there. chosen_in given.epoch s (k.log s) there (k.each s there)) chosen_parts)
 
-  released : IsPrefix w.released whole
+  pub released : IsPrefix w.released whole
   released = known.released whole rising (λ given i. given_in given (known.given given i))
 
   -- ---- replicas ----
@@ -201,7 +200,7 @@ module _ (setup : Setup) (sized : SetupFits setup) (events : List Event) (fits :
   -- ---- opening lists ----
 
   -- what was chosen earlier begins the initial logs of a later epoch
-  begins_initial : (e s : ℕ) (log : bytes.Log) → There s → ChosenAt (cluster_of setup) v e s log → (later : ℕ) → e < later → (t : Term)
+  pub begins_initial : (e s : ℕ) (log : bytes.Log) → There s → ChosenAt (cluster_of setup) v e s log → (later : ℕ) → e < later → (t : Term)
       → v.terms later ≡ Some t → IsPrefix log (initial_at t (s - 1))
   begins_initial e s log there k later less t term =
       let at : ChosenAt (cluster_of setup) (streams_after (cluster_of setup) tied.events) e s log = record {
@@ -260,7 +259,7 @@ module _ (setup : Setup) (sized : SetupFits setup) (events : List Event) (fits :
 
   -- ---- all of it ----
 
-  safe : Safe setup w
+  pub safe : Safe setup w
   safe = record {
     chosen = chosen;
     are_chosen = λ s c. longest s (in_numbers setup.workers s (contains_in (stream_numbers setup) s c));
@@ -274,4 +273,5 @@ module _ (setup : Setup) (sized : SetupFits setup) (events : List Event) (fits :
 pub led_runs_are_safe : LedRunsAreSafe
 led_runs_are_safe led setup events w sized fits is =
     let k = all_known setup sized events fits w is in
-    safe setup sized events fits w is (led setup events w sized fits is) k.0 k.1
+    safe setup sized w (led (record { setup = setup; events = events; world = w; setup_fits = sized; events_fit = fits; ends = is }))
+    k.0 k.1 (chosen_logs setup sized events fits w is).0 (chosen_logs setup sized events fits w is).1

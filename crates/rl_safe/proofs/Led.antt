@@ -91,11 +91,14 @@ module _ (b : Below) (setup : Setup) (sized : SetupFits setup) where
   }
 
 pub runs_are_led : Below → RunsAreLed
-runs_are_led b setup events w sized fits is =
-    let all_fit = expanded_fit setup.nodes setup.workers events sized.some_nodes sized.some_workers fits in
-    let reached : Reached setup w = subst (Holds setup (Reached setup) (stays b setup sized)) is
-    (events_hold setup (Reached setup) (stays b setup sized) (expanded_events setup events)
-    (λ e i. all_in (EventFits setup.nodes setup.workers) (expanded_events setup events) all_fit e i) (new_world setup) (first b setup sized)) in
+runs_are_led b run =
+    let setup = run.setup in
+    let w = run.world in
+    let sized = run.setup_fits in
+    let all_fit = expanded_fit setup.nodes setup.workers run.events sized.some_nodes sized.some_workers run.events_fit in
+    let reached : Reached setup w = subst (Holds setup (Reached setup) (stays b setup sized)) run.ends
+    (events_hold setup (Reached setup) (stays b setup sized) (expanded_events setup run.events)
+    (λ e i. all_in (EventFits setup.nodes setup.workers) (expanded_events setup run.events) all_fit e i) (new_world setup) (first b setup sized)) in
     let r : TiedRun setup w = reached.0 in
     let accounts = reached.1.0 in
     let inv : Inv setup w accounts = reached.1.1 in

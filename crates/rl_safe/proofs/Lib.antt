@@ -18,8 +18,11 @@ pub mod Accounts
 pub mod Below
 pub mod CoreTurns
 pub mod Drives
+pub mod Elections
 pub mod Encodings
+pub mod Epochs
 pub mod Fits
+pub mod Happens
 pub mod JoinedSafe
 pub mod KnownGrowth
 pub mod KnownLists

@@ -1,17 +1,11 @@
--- What is safe in every run.
-use Rattle.std.specs.Prelude.{◌≡◌, List, All, Ok}
-use Rattle.rl_events.specs.Fits.{EventFits}
-use Rattle.rl_events.specs.declared.event.Event.{Event}
-use Rattle.rl_nodes.specs.Events.{world_after}
+-- What is true of every run.
 use Rattle.rl_nodes.specs.Laws.{EveryRunIsSafe}
-use Rattle.rl_nodes.specs.Setups.{Setup, SetupFits}
-use Rattle.rl_nodes.specs.World.{World}
 use Rattle.rl_safe.specs.Led.{IsLed}
+use Rattle.rl_safe.specs.Runs.{Run}
 
 -- each run is one of leaders as the laws of families ask
 abbrev pub RunsAreLed : Type 0
-RunsAreLed = (setup : Setup) (events : List Event) (w : World) → SetupFits setup
-    → All (EventFits setup.nodes setup.workers) events → world_after setup events ≡ Ok w → IsLed setup w
+RunsAreLed = (run : Run) → IsLed run.setup run.world
 
 -- where they are, every run is safe
 abbrev pub LedRunsAreSafe : Type 0

@@ -1,2 +1,4 @@
+pub mod Runs
 pub mod Led
+pub mod Elections
 pub mod Laws

@@ -1,7 +1,9 @@
 //! Laws of every run: the contract of each function is the law.
 
 ghost use Rattle.rl_nodes.specs.Laws.{EveryRunIsSafe};
+ghost use Rattle.rl_safe.specs.Elections.{LogsHaveWhatIsProposed, LogsHaveAllUpToTheLast, EpochsDecide, OpeningListsStand, LaterLogsBeginOpeningLists, EpochsSettle, ReleasedIsNeverCut};
 ghost use Rattle.rl_safe.specs.Laws.{RunsAreLed, LedRunsAreSafe};
+ghost use Rattle.rl_safe.specs.Runs.{SomeRunReleases};
 
 use rl_batch::laws as batches;
 use rl_election::laws as streams;
@@ -36,3 +38,38 @@ pub fn runs_are_led()
 pub fn led_runs_are_safe()
     ensures { LedRunsAreSafe }
 {}
+
+/// There is a run in which two leaders release items, one after the other: so what every run is promised is not promised of none.
+pub fn something_happens()
+    ensures { SomeRunReleases }
+{}
+
+/// What an epoch has in a log that a node keeps, that a leader has or that is chosen is nothing, or its open mark and a prefix of
+/// what its leader proposed on that stream; and all that the leader decided there up to the last seq.
+pub fn logs_have_what_leaders_propose()
+    ensures proposed { LogsHaveWhatIsProposed }
+    ensures all { LogsHaveAllUpToTheLast }
+{}
+
+/// The items of an epoch in the history of the chosen logs are all that its leader decided up to the least last seq.
+pub fn epochs_decide()
+    ensures { EpochsDecide }
+{}
+
+/// An epoch opens with one list, for good; and what its leader opens with or releases from begins the history of the initial
+/// logs of each later epoch.
+pub fn opening_lists_stand()
+    ensures one { OpeningListsStand }
+    ensures later { LaterLogsBeginOpeningLists }
+{
+    runs_are_led();
+}
+
+/// Once each chosen log has an entry of a later epoch, the history of the chosen logs has the same items of an epoch for good;
+/// and what was released is never cut.
+pub fn epochs_settle()
+    ensures settled { EpochsSettle }
+    ensures released { ReleasedIsNeverCut }
+{
+    runs_are_led();
+}
