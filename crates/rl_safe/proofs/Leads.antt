@@ -219,16 +219,16 @@ module _ (setup : Setup) (initial : List Log) (lead : Lead) (account : Account) 
 -- ---- the streams of a new leader ----
 
 -- a stream on which nothing was proposed yet
-abbrev IsNew : Leading → Type 0
+abbrev pub IsNew : Leading → Type 0
 IsNew x = x.initial_len ≡ length x.log
 
-new_at : (e nodes quorum : ℕ) (logs : List Log) (i : ℕ) → IsNew (get_or (map (new_leading e nodes quorum) logs) i no_stream)
+pub new_at : (e nodes quorum : ℕ) (logs : List Log) (i : ℕ) → IsNew (get_or (map (new_leading e nodes quorum) logs) i no_stream)
 new_at e nodes quorum [] i = refl
 new_at e nodes quorum (log ∷ logs) zero = refl
 new_at e nodes quorum (log ∷ logs) (suc i) = new_at e nodes quorum logs i
 
 -- its initial log is its log
-whole : (x : Leading) → IsNew x → initial_log_of x ≡ x.log
+pub whole : (x : Leading) → IsNew x → initial_log_of x ≡ x.log
 whole x new = take_all x.initial_len x.log (omega (arith, new))
 
 module _ (setup : Setup) (sized : SetupFits setup) (c : Candidate) (low : 1 ≤ c.epoch) (high : c.epoch < 2 ^ 20) where

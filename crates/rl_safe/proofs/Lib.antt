@@ -34,6 +34,7 @@ pub mod Leads
 pub mod Led
 pub mod Listed
 pub mod Moves
+pub mod Opened
 pub mod Origins
 pub mod Sayings
 pub mod Told

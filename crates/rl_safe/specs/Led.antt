@@ -2,6 +2,8 @@
 use Rattle.std.specs.Prelude.{◌≡◌, ℕ, Contains, IsTrue}
 use Rattle.rl_paxos.specs.Logs as bytes
 use Rattle.rl_election.specs.Chosen.{IsInitialLog, IsLeaderLog}
+use Rattle.rl_txn.specs.declared.item.Item.{Item}
+use Rattle.rl_families.specs.Logs.{items_along}
 use Rattle.rl_families.specs.Leaders.{Leaders, AreLeaders, initial_log, leader_log, opening_list}
 use Rattle.rl_families.specs.LeadersLogs.{AreSerialLeaders}
 use Rattle.rl_worker.specs.Laws.{IsTrueCause}
@@ -13,6 +15,10 @@ use Rattle.rl_nodes.specs.World.{World, Opened, Attempt}
 -- for each log of a property in a world, by epoch and stream
 abbrev pub ForLogs : Setup → ((epoch s : ℕ) → bytes.Log → Type 0) → ((epoch s : ℕ) → bytes.Log → Type 0) → Type 0
 ForLogs setup Is P = (epoch s : ℕ) → Contains (stream_numbers setup) s → (log : bytes.Log) → Is epoch s log → P epoch s log
+
+-- a leader of an epoch has opened
+abbrev pub HasOpened : World → (epoch : ℕ) → Type 0
+HasOpened w epoch = (o : Opened) × Contains w.openings o × (o.epoch ≡ epoch)
 
 -- what the leaders of all epochs have proposed in the run that came to a world, as the laws of families ask it
 pub record IsLed (setup : Setup) (w : World) : Type 0 where
@@ -26,5 +32,7 @@ pub record IsLed (setup : Setup) (w : World) : Type 0 where
   pub encoded : ForLogs setup (IsLeaderLog (stream_world setup w)) (λ epoch s log. IsTrue (are_batches log))
   -- each opening list is the history of its epoch's initial logs
   pub openings : (o : Opened) → Contains w.openings o → o.items ≡ opening_list leaders setup.workers o.epoch
+  -- only a leader that has opened has proposed items
+  pub opened : (epoch s : ℕ) (x : Item) → Contains (items_along (leaders.proposed epoch s)) x → HasOpened w epoch
   -- an attempt was refused only for a true cause
   pub refusals : (f : Attempt) → Contains w.refusals f → IsTrueCause f.refusal.worker f.refusal.cause
