@@ -1,7 +1,9 @@
 -- The leaders of all epochs of a run, and how the logs, opening lists and refusals of its world stand to them.
-use Rattle.std.specs.Prelude.{◌≡◌, ℕ, Contains, IsTrue}
+use Rattle.std.specs.Prelude.{◌≡◌, ℕ, All, Contains, IsTrue}
+use Rattle.rl_msg.specs.Ranges.{EmbeddedBatchInRange}
 use Rattle.rl_paxos.specs.Logs as bytes
 use Rattle.rl_election.specs.Chosen.{IsInitialLog, IsLeaderLog}
+use Rattle.rl_txn.specs.Fits.{ItemWritesFit}
 use Rattle.rl_txn.specs.declared.item.Item.{Item}
 use Rattle.rl_families.specs.Logs.{items_along}
 use Rattle.rl_families.specs.Leaders.{Leaders, AreLeaders, initial_log, leader_log, opening_list}
@@ -30,6 +32,10 @@ pub record IsLed (setup : Setup) (w : World) : Type 0 where
   pub initials : ForLogs setup (IsInitialLog (stream_world setup w)) (λ epoch s log. batches_of log ≡ initial_log leaders epoch s)
   -- each element of such a log encodes a batch
   pub encoded : ForLogs setup (IsLeaderLog (stream_world setup w)) (λ epoch s log. IsTrue (are_batches log))
+  -- with no more bytes than a batch may have
+  pub short : ForLogs setup (IsLeaderLog (stream_world setup w)) (λ epoch s log. All EmbeddedBatchInRange log)
+  -- what is decided fits the tables
+  pub fit : (epoch : ℕ) (x : Item) → Contains (leaders.decided epoch) x → ItemWritesFit setup.program.tables x
   -- each opening list is the history of its epoch's initial logs
   pub openings : (o : Opened) → Contains w.openings o → o.items ≡ opening_list leaders setup.workers o.epoch
   -- only a leader that has opened has proposed items

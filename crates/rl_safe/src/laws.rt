@@ -25,6 +25,7 @@ pub fn runs_are_led()
     ensures { RunsAreLed }
 {
     batches::reads_back();
+    batches::short();
     streams::leader_logs();
     transactions::rows();
     transactions::words();
