@@ -166,7 +166,7 @@ module _ (setup : Setup) (initial : List Log) (lead : Lead) (account : Account) 
 
 -- ---- an Ack ----
 
-ack_log : (x : Leading) (node len : ℕ) → (with_ack x node len).log ≡ x.log
+pub ack_log : (x : Leading) (node len : ℕ) → (with_ack x node len).log ≡ x.log
 ack_log x node len = by_test (is_node (length x.acked) node)
   where
     by_test : (b : Bool) → (if b then record x { acked = slice_set x.acked (node - 1) (max (get_or x.acked (node - 1) 0) len) } else x).log ≡ x.log

@@ -21,6 +21,7 @@ pub mod Drives
 pub mod Elections
 pub mod Encodings
 pub mod Epochs
+pub mod Fair
 pub mod Fits
 pub mod Happens
 pub mod JoinedSafe
@@ -37,4 +38,5 @@ pub mod Moves
 pub mod Opened
 pub mod Origins
 pub mod Sayings
+pub mod Sent
 pub mod Told
