@@ -1,24 +1,21 @@
 -- What holds of all messages that were sent in a run: their senders, epochs and streams, and the lengths in Acks; and that no log of a
 -- leader passes the limit of slots.
-use Rattle.std.proofs.Common.{◌≡◌, ◌≢◌, ◌⊎◌, ℕ, suc, ◌-◌, ◌+◌, ◌^◌, ◌<◌, ◌≤◌, List, [], ◌∷◌, ◌++◌, length, map, true, false, Option, Some, None, refl, ap, sym, ◌∙◌, subst, arith, inl, inr, unwrap_or, get_or-set_same}
-use Rattle.std.proofs.lemmas.Bool.{cases_lt}
+use Rattle.std.proofs.Common.{◌≡◌, ◌⊎◌, ℕ, ◌-◌, ◌^◌, ◌<◌, ◌≤◌, List, [], ◌∷◌, length, map, true, false, Option, Some, None, refl, ap, sym, ◌∙◌, subst, arith, inl, inr, unwrap_or, get_or-set_same}
 use Rattle.std.proofs.lemmas.List.{map-append, length-append}
 use Rattle.std.proofs.lemmas.List.Elements.{filter_map-append}
 use Rattle.rl_base.specs.Epochs.{owner_of}
-use Rattle.rl_base.specs.Lists.{IsPrefix}
 use Rattle.rl_base.specs.declared.limit.TheConstants.{SLOTS}
 use Rattle.rl_base.proofs.Members.{In, in_prefix, in_split}
 use Rattle.rl_base.proofs.Prefixes.{prefix_length}
-use Rattle.rl_base.proofs.UpdateLemmas.{by_updated, updated_same, updated_other}
-use Rattle.rl_paxos.specs.Acceptors.{kept_ballot, kept_log}
-use Rattle.rl_paxos.specs.Leaders.{Leading}
+use Rattle.rl_base.proofs.UpdateLemmas.{by_updated, updated_other}
+use Rattle.rl_paxos.specs.Acceptors.{kept_log}
 use Rattle.rl_paxos.specs.Quorums.{is_node}
 use Rattle.rl_election.specs.World as world
 use Rattle.rl_election.specs.World.{Envelope, StreamWorld, Term, stream_of}
 use Rattle.rl_election.specs.StreamEvents.{streams_after}
-use Rattle.rl_election.specs.Chosen.{IsFromEarlier, HasOrigin}
+use Rattle.rl_election.specs.Chosen.{HasOrigin}
 use Rattle.rl_election.specs.Laws.{InitialLogsHaveOrigins}
-use Rattle.rl_election.proofs.Inv.{AcceptorOk, InLeaderLog, Inv, RoleOk, kept_at}
+use Rattle.rl_election.proofs.Inv.{AcceptorOk, Inv, RoleOk}
 use Rattle.rl_election.proofs.Stays.{inv_of}
 use Rattle.rl_msg.specs.declared.msg.Msg.{Msg}
 use Rattle.rl_msg.specs.declared.msg.Msg.TheVariants as msg
@@ -39,8 +36,8 @@ use Rattle.rl_safe.proofs.KnownLists.{by_set}
 use Rattle.rl_safe.proofs.KnownMoves.{NamesOne}
 use Rattle.rl_safe.proofs.KnownRuns as runs
 use Rattle.rl_safe.proofs.KnownRuns.{after_step, IsKept}
-use Rattle.rl_safe.proofs.Leads.{IsNew, whole}
-use Rattle.rl_safe.proofs.Sent.{Shaped, Said, Own, Back, AckKept, EpochIn, PartFair, PartFull, Small, PartSmall, Fair, goes}
+use Rattle.rl_safe.proofs.Leads.{whole}
+use Rattle.rl_safe.proofs.Sent.{Said, Own, Back, AckKept, EpochIn, PartFair, PartFull, Small, PartSmall, Fair, goes}
 
 -- the sender and the stream are there, the epoch is in range and its owner's, and no part is lacking
 pub record HeadFair (setup : Setup) (m : Msg) : Type 0 where

@@ -24,6 +24,7 @@ pub mod Epochs
 pub mod Fair
 pub mod Fits
 pub mod Happens
+pub mod InRange
 pub mod JoinedSafe
 pub mod KnownGrowth
 pub mod KnownLists
@@ -34,6 +35,7 @@ pub mod KnownWorlds
 pub mod Leads
 pub mod Led
 pub mod Listed
+pub mod Messages
 pub mod Moves
 pub mod Opened
 pub mod Origins

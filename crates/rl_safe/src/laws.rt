@@ -3,10 +3,12 @@
 ghost use Rattle.rl_nodes.specs.Laws.{EveryRunIsSafe};
 ghost use Rattle.rl_safe.specs.Elections.{LogsHaveWhatIsProposed, LogsHaveAllUpToTheLast, EpochsDecide, ItemsAreOfOpenedEpochs, OpeningListsStand, LaterLogsBeginOpeningLists, EpochsSettle, ReleasedIsNeverCut};
 ghost use Rattle.rl_safe.specs.Laws.{RunsAreLed, LedRunsAreSafe};
+ghost use Rattle.rl_safe.specs.Messages.{MessagesAreInRange, MessagesReadBack};
 ghost use Rattle.rl_safe.specs.Runs.{SomeRunReleases};
 
 use rl_batch::laws as batches;
 use rl_election::laws as streams;
+use rl_msg::laws as messages;
 use rl_txn::laws as transactions;
 use rl_worker::laws as workers;
 
@@ -73,5 +75,15 @@ pub fn epochs_settle()
     ensures settled { EpochsSettle }
     ensures released { ReleasedIsNeverCut }
 {
+    runs_are_led();
+}
+
+/// Each message that was sent in a run is in range of its encoding, so that its bytes read back as it.
+pub fn messages_are_in_range()
+    ensures in_range { MessagesAreInRange }
+    ensures read_back { MessagesReadBack }
+{
+    streams::leader_logs();
+    messages::reads_back();
     runs_are_led();
 }
