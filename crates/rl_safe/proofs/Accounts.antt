@@ -18,12 +18,13 @@ use Rattle.rl_worker.specs.Laws.{stamps_by, IsTrueCause}
 use Rattle.rl_worker.specs.OneTurn.{ended_by, installing}
 use Rattle.rl_worker.specs.Opening.{OpenLeader, core_after, items_seen}
 use Rattle.rl_worker.specs.Phases.{Setting}
-use Rattle.rl_nodes.specs.Batches.{batches_of, are_batches, END_SEQ}
+use Rattle.rl_nodes.specs.Batches.{batches_of, END_SEQ}
 use Rattle.rl_nodes.specs.Nodes.{Lead, Part, Follows, Stands, Leads, leading, initial_log_of, pending_of}
 use Rattle.rl_nodes.specs.Openings.{opening_leader}
 use Rattle.rl_nodes.specs.Setups.{Setup}
 use Rattle.rl_nodes.specs.Streams.{HasBegun}
 use Rattle.rl_nodes.specs.World.{World, Opened, Attempt, node_of}
+use Rattle.rl_safe.proofs.Encodings.{AllEncode}
 use Rattle.rl_safe.proofs.CoreTurns.{IsStuck, own_setting}
 
 -- the turns that the workers of an epoch's leader made, and by worker the items that have ended and were not proposed yet
@@ -122,7 +123,7 @@ pub record Says (S : Setting) (e s : ℕ) (batches : List Batch) (c : Core) (pen
 -- a stream of an epoch's leader
 pub record StreamOk (S : Setting) (e s : ℕ) (first log : Log) (c : Core) (pending : List Item) : Type 0 where
   pub begins : IsPrefix first log
-  pub encoded : are_batches (tail_of first log) ≡ true
+  pub encoded : AllEncode (tail_of first log)
   pub says : Says S e s (batches_of (tail_of first log)) c pending
 
 module _ (setup : Setup) where

@@ -1,5 +1,5 @@
 -- The laws of the crates below on which the proof stands, as their functions ensure them.
-use Rattle.rl_batch.specs.Laws.{BatchesReadBack}
+use Rattle.rl_batch.specs.Laws.{BatchesReadBack, EncodingsAreShort}
 use Rattle.rl_election.specs.Laws.{InitialLogsHaveOrigins, OwnersLead, CandidatesStandFirst}
 use Rattle.rl_txn.specs.Laws.{RowsGoOnFitting}
 use Rattle.rl_txn.specs.Words.{SerialItemsHaveWords, RowsKeepWords}
@@ -9,6 +9,7 @@ use Rattle.rl_worker.specs.Stamping.{OpeningStampsAreEarly}
 
 pub record Below : Type 0 where
   pub read_back : BatchesReadBack
+  pub short : EncodingsAreShort
   pub origins : InitialLogsHaveOrigins
   pub owners : OwnersLead
   pub candidates : CandidatesStandFirst

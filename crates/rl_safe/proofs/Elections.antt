@@ -36,11 +36,11 @@ use Rattle.rl_nodes.specs.World.{World, Opened, Given, node_of}
 use Rattle.rl_nodes.proofs.Deliveries.{in_numbers, between_as}
 use Rattle.rl_nodes.proofs.Growing.{messages, runs_go_on, runs_only_add}
 use Rattle.rl_nodes.proofs.Tied.{TiedRun, between}
-use Rattle.rl_safe.specs.Led.{IsLed}
+use Rattle.rl_safe.specs.Led.{HasOpened, IsLed}
 use Rattle.rl_safe.specs.Laws.{RunsAreLed}
 use Rattle.rl_safe.specs.Runs.{Run}
-use Rattle.rl_safe.specs.Elections.{IsLog, IsKept, IsLeaders, IsChosenAt, RunLog, ChosenLogs, InitialLogs, Stretch, longer_run, LogsHaveWhatIsProposed, IsReached, LogsHaveAllUpToTheLast, OpeningListsStand, LaterLogsBegin, LaterLogsBeginOpeningLists, least_last, EpochsDecide, IsPast, EpochsSettle, ReleasedIsNeverCut}
-use Rattle.rl_safe.proofs.Epochs.{filter_both, part_at, all_reached_in, epoch_decides}
+use Rattle.rl_safe.specs.Elections.{IsLog, IsKept, IsLeaders, IsChosenAt, RunLog, ChosenLogs, InitialLogs, Stretch, longer_run, LogsHaveWhatIsProposed, ItemsAreOfOpenedEpochs, IsReached, LogsHaveAllUpToTheLast, OpeningListsStand, LaterLogsBegin, LaterLogsBeginOpeningLists, least_last, EpochsDecide, IsPast, EpochsSettle, ReleasedIsNeverCut}
+use Rattle.rl_safe.proofs.Epochs.{filter_both, part_at, proposed_at, all_reached_in, epoch_decides}
 use Rattle.rl_safe.proofs.JoinedSafe.{chosen_logs, are_prefixes, logs_rise, same_family, nests, part_in, chosen_parts, begins_initial, released}
 use Rattle.rl_safe.proofs.KnownGrowth.{ChosenPart, LeaderPart, Later, later, part_stays}
 use Rattle.rl_safe.proofs.KnownLists.{node_low, node_high, numbers_in, range_length, map_inside, batches_begin}
@@ -161,6 +161,16 @@ module _ (run : Run) where
         k.epoch x.stream (node_low run.setup.workers x.stream there) (node_high run.setup.workers x.stream there)
         item (contains_in (led.leaders.decided k.epoch) item k.decided) k.worker
         (subst (λ log. item.stamp.seq ≤ last_seq (batches_of log) k.epoch) (sym same) k.reached)))
+
+    pub is_opened : (x : RunLog run) (item : Item) → Contains (items_along (batches_of x.log)) item → HasOpened run.world item.stamp.epoch
+    is_opened x item c =
+        let there = in_stream x.stream x.in_setup in
+        let same = updated_same (λ r. []) x.stream x.log in
+        led.opened item.stamp.epoch x.stream item (in_contains (items_along (led.leaders.proposed item.stamp.epoch x.stream)) item
+        (proposed_at led.leaders run.setup.workers led.are_leaders (λ s. batches_of (alone x s))
+        (are_prefixes run.setup run.setup_fits run.world led facts.0 facts.1 longest.0 longest.1 (alone x) (alone_parts x))
+        x.stream (node_low run.setup.workers x.stream there) (node_high run.setup.workers x.stream there) item
+        (subst (λ log. In item (items_along (batches_of log))) (sym same) (contains_in (items_along (batches_of x.log)) item c))))
 
     module _ (chosen : ChosenLogs run) where
       pub all_longest : (s : ℕ) → There s → IsLongestChosen (cluster_of run.setup) (stream_world run.setup run.world) s (chosen.log s)
@@ -286,6 +296,9 @@ logs_have_what_is_proposed run led = has_proposed run led
 
 pub logs_have_all_up_to_the_last : LogsHaveAllUpToTheLast
 logs_have_all_up_to_the_last run led = has_all run led
+
+pub items_are_of_opened_epochs : RunsAreLed → ItemsAreOfOpenedEpochs
+items_are_of_opened_epochs led run = is_opened run (led run)
 
 pub epochs_decide : EpochsDecide
 epochs_decide run led chosen epoch = decides run led chosen epoch

@@ -1,13 +1,13 @@
 -- What a leader proposes is read back from its encoding.
-use Rattle.std.proofs.Common.{◌≡◌, ℕ, zero, suc, ◌-◌, ◌^◌, ◌<◌, ◌≤◌, List, [], ◌∷◌, ◌++◌, length, map, get_or, true, ◌&&◌, is_some, Option, Some, None, IsSomeAnd, IfSome, All, AllPairs, refl, sym, ap, ◌∙◌, arith, inl, inr}
+use Rattle.std.proofs.Common.{◌≡◌, ℕ, zero, suc, ◌-◌, ◌^◌, ◌<◌, ◌≤◌, List, [], ◌∷◌, ◌++◌, length, map, get_or, true, is_some, Option, Some, None, IsSomeAnd, IfSome, All, AllPairs, refl, sym, ap, ◌∙◌, subst, arith, inl, inr}
 use Rattle.std.proofs.lemmas.List.Elements.{filter_map-append}
 use Rattle.std.specs.Prelude.{slice_get}
 use Rattle.std.specs.Option.{option_map_or}
 use Rattle.std.specs.List.{cons_option}
 use Rattle.std.specs.Result.{result_ok}
 use Rattle.rl_base.specs.declared.limit.TheConstants.{WORKERS, RECORDS, OPS}
-use Rattle.rl_base.proofs.Members.{In, in_map, all_in}
-use Rattle.rl_base.proofs.Tests.{both, both_true}
+use Rattle.rl_base.proofs.Members.{In, in_prefix, in_split, in_map, all_in}
+use Rattle.rl_base.proofs.Tests.{both_true}
 use Rattle.rl_value.specs.Tables.{Table, IsTable, IsSchema, size_of, columns_of}
 use Rattle.rl_txn.specs.declared.batch.Batch.{Batch}
 use Rattle.rl_txn.specs.declared.batch.Batch.TheVariants.{Items}
@@ -21,7 +21,8 @@ use Rattle.rl_txn.specs.Serial.{numbered, request_of}
 use Rattle.rl_txn.specs.Words.{ItemHasWords}
 use Rattle.rl_batch.specs.declared.item.TheConstants.{BATCH_ITEMS}
 use Rattle.rl_batch.specs.Encoding.{batch_bytes}
-use Rattle.rl_batch.specs.Ranges.{ItemsInRange, ItemInRange, WriteInRange, EndInRange, most_writes}
+use Rattle.rl_batch.specs.Ranges.{BatchInRange, HasWords, ItemsInRange, ItemInRange, WriteInRange, EndInRange, most_writes}
+use Rattle.rl_msg.specs.Ranges.{EmbeddedBatchInRange}
 use Rattle.rl_paxos.specs.Logs as bytes
 use Rattle.rl_families.specs.Leaders.{open_mark}
 use Rattle.rl_families.proofs.Rising.{Rises, above_in}
@@ -40,20 +41,30 @@ batches-append xs ys = filter_map-append batch_of xs ys
 pub batches_more : (log : bytes.Log) (b : bytes.Batch) (batch : Batch) → batch_of b ≡ Some batch → batches_of (log ++ b ∷ []) ≡ batches_of log ++ batch ∷ []
 batches_more log b batch is = batches-append log (b ∷ []) ∙ ap (λ o. batches_of log ++ cons_option o []) is
 
-pub encoded-append : (xs ys : bytes.Log) → are_batches xs ≡ true → are_batches ys ≡ true → are_batches (xs ++ ys) ≡ true
-encoded-append [] ys p q = q
-encoded-append (x ∷ xs) ys p q =
-    let k = both (is_some (batch_of x)) (are_batches xs) p in
-    both_true (is_some (batch_of x)) (are_batches (xs ++ ys)) k.0 (encoded-append xs ys k.1 q)
+-- bytes that are read as a batch, as many as a batch may have
+abbrev pub Encodes : bytes.Batch → Batch → Type 0
+Encodes b batch = (batch_of b ≡ Some batch) × EmbeddedBatchInRange b
 
-pub encoded_one : (b : bytes.Batch) (batch : Batch) → batch_of b ≡ Some batch → are_batches (b ∷ []) ≡ true
-encoded_one b batch is = ap (λ o. is_some o && true) is
+-- each element of a log is so
+abbrev pub AllEncode : bytes.Log → Type 0
+AllEncode log = (b : bytes.Batch) → In b log → (batch : Batch) × Encodes b batch
 
-pub encoded_front : (xs ys : bytes.Log) → are_batches (xs ++ ys) ≡ true → are_batches xs ≡ true
-encoded_front [] ys h = refl
-encoded_front (x ∷ xs) ys h =
-    let k = both (is_some (batch_of x)) (are_batches (xs ++ ys)) h in
-    both_true (is_some (batch_of x)) (are_batches xs) k.0 (encoded_front xs ys k.1)
+pub none_encoded : AllEncode []
+none_encoded b i = absurd i
+
+pub encoded-append : (xs ys : bytes.Log) → AllEncode xs → AllEncode ys → AllEncode (xs ++ ys)
+encoded-append xs ys p q b i = elim (in_split xs ys b i) [ inl j ↦ p b j | inr j ↦ q b j ]
+
+pub encoded_one : (b : bytes.Batch) (batch : Batch) → Encodes b batch → AllEncode (b ∷ [])
+encoded_one b batch is c i = elim i [ inl e ↦ subst (λ d. (batch : Batch) × Encodes d batch) (sym e) (batch, is) | inr j ↦ absurd j ]
+
+pub encoded_front : (xs ys : bytes.Log) → AllEncode (xs ++ ys) → AllEncode xs
+encoded_front xs ys h b i = h b (in_prefix xs ys b i)
+
+pub are_encoded : (log : bytes.Log) → AllEncode log → are_batches log ≡ true
+are_encoded [] h = refl
+are_encoded (x ∷ xs) h =
+    both_true (is_some (batch_of x)) (are_batches xs) (ap is_some (h x (inl refl)).1.0) (are_encoded xs (λ b i. h b (inr i)))
 
 -- ---- items in range ----
 
@@ -149,14 +160,19 @@ pub record ArePending (l : OpenLeader) (w : ℕ) (xs : List Item) : Type 0 where
   pub rise : Rises (map (λ (x : Item). x.stamp) xs)
 
 module _ (b : Below) where
-  pub mark_read : (e : ℕ) → 1 ≤ e → e < 2 ^ 20 → batch_of (batch_bytes (open_mark e)) ≡ Some (open_mark e)
-  mark_read e low high = ap result_ok (b.read_back (open_mark e) (record { epoch_low = low; epoch_high = omega (arith, high); seq_low = omega arith; seq_high = omega arith }) tt)
+  encodes : (batch : Batch) → BatchInRange batch → HasWords batch → Encodes (batch_bytes batch) batch
+  encodes batch range words = (ap result_ok (b.read_back batch range words), b.short batch range)
 
-  pub idle_read : (e q : ℕ) → 1 ≤ e → e < 2 ^ 20 → 2 ≤ q → q ≤ 2 ^ 40 - 1 → batch_of (batch_bytes (idle_mark e q)) ≡ Some (idle_mark e q)
-  idle_read e q low high above below = ap result_ok (b.read_back (idle_mark e q) (record { epoch_low = low; epoch_high = omega (arith, high); seq_low = above; seq_high = below }) tt)
+  pub mark_read : (e : ℕ) → 1 ≤ e → e < 2 ^ 20 → Encodes (batch_bytes (open_mark e)) (open_mark e)
+  mark_read e low high =
+      encodes (open_mark e) (record { epoch_low = low; epoch_high = omega (arith, high); seq_low = omega arith; seq_high = omega arith }) tt
+
+  pub idle_read : (e q : ℕ) → 1 ≤ e → e < 2 ^ 20 → 2 ≤ q → q ≤ 2 ^ 40 - 1 → Encodes (batch_bytes (idle_mark e q)) (idle_mark e q)
+  idle_read e q low high above below =
+      encodes (idle_mark e q) (record { epoch_low = low; epoch_high = omega (arith, high); seq_low = above; seq_high = below }) tt
 
   pub items_read : (l : OpenLeader) → CoreFits l → 1 ≤ l.epoch → l.epoch < 2 ^ 20 → (w : ℕ) → 1 ≤ w → w ≤ WORKERS
-      → (xs : List Item) → ArePending l w xs → batch_of (batch_bytes (Items xs)) ≡ Some (Items xs)
+      → (xs : List Item) → ArePending l w xs → Encodes (batch_bytes (Items xs)) (Items xs)
   items_read l fits low high w first last [] p = absurd (let some = p.some in omega (arith, some))
   items_read l fits low high w first last (x ∷ xs) p =
       let epoch : (y : Item) → In y (x ∷ xs) → y.stamp.epoch ≡ l.epoch = λ y i. (p.seen y i).0.epoch in
@@ -175,4 +191,4 @@ module _ (b : Below) where
         each = all_from ItemInRange (x ∷ xs) (λ y i. item_in_range l fits y (p.seen y i).0);
         rising = seqs_rise l.epoch (x ∷ xs) epoch p.rise;
       } in
-      ap result_ok (b.read_back (Items (x ∷ xs)) range (all_from ItemHasWords (x ∷ xs) (λ y i. (p.seen y i).1)))
+      encodes (Items (x ∷ xs)) range (all_from ItemHasWords (x ∷ xs) (λ y i. (p.seen y i).1))

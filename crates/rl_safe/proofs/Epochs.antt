@@ -107,6 +107,19 @@ module _ (l : Leaders) (n : ℕ) (g : AreLeaders l n) where
         absurd (let born = (f_stamp l n g f told s low high y.0 y.1).born in let q = y.2 in omega (arith, born, q))
     all_reached_in (suc e) s low high x i worker few = reached (suc e) s (f s) (part_at (suc e) s (omega arith) low high) x i worker few
 
+    -- an item of a log was proposed at its epoch
+    pub proposed_at : (s : ℕ) → 1 ≤ s → s ≤ n → (x : Item) → In x (items_along (f s)) → In x (items_along (l.proposed x.stamp.epoch s))
+    proposed_at s low high x i =
+        let e = x.stamp.epoch in
+        let p = part_at e s (f_stamp l n g f told s low high x.stamp (item_stamp (f s) x i)).born low high in
+        elim (split_items x p.before (p.part ++ p.later) (subst (λ z. In x (items_along z)) (sym p.joins) i)) [
+          | inl j ↦ absurd (let less = p.below x.stamp (in_contains (stamps_along p.before) x.stamp (item_stamp p.before x j)) in omega (arith, less))
+          | inr j ↦ elim (split_items x p.part p.later j) [
+            | inl k ↦ items_pre x p.part (open_mark e ∷ l.proposed e s) p.is k
+            | inr k ↦ absurd (let more = p.above x.stamp (in_contains (stamps_along p.later) x.stamp (item_stamp p.later x k)) in omega (arith, more))
+          ]
+        ]
+
     abbrev family : List (List Batch)
     family = logs_of_streams n f
 

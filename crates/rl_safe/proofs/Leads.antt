@@ -32,7 +32,7 @@ use Rattle.rl_worker.specs.Items.{CoreItem}
 use Rattle.rl_worker.specs.OneTurn.{newly_ended, newly_refused}
 use Rattle.rl_worker.specs.Opening.{OpenLeader, core_after, item_seen, items_seen}
 use Rattle.rl_worker.specs.Phases.{Setting}
-use Rattle.rl_nodes.specs.Batches.{batch_of, batches_of, are_batches, END_SEQ, idle_mark}
+use Rattle.rl_nodes.specs.Batches.{batches_of, END_SEQ, idle_mark}
 use Rattle.rl_nodes.specs.Handles.{new_lead}
 use Rattle.rl_nodes.specs.Nodes.{Lead, leading, with_leading, pending_of, with_pending, initial_log_of, len_acknowledged, acknowledged_log, acknowledged_history, marks_are_acknowledged}
 use Rattle.rl_nodes.specs.Openings.{next_request}
@@ -46,7 +46,7 @@ use Rattle.rl_nodes.proofs.ChangesInStreams.{by_node, first_proposed}
 use Rattle.rl_safe.proofs.Below.{Below}
 use Rattle.rl_safe.proofs.CoreTurns.{core_more, own_setting, Turned, IsStuck, turn_of, ended_is}
 use Rattle.rl_safe.proofs.Accounts.{Account, no_account, first_at, carried_at, log_at, tail_of, carried_in, opening_of, leader_of, core_of, Says, StreamOk, LeadOk, CoreOk, AllFew, first_logs}
-use Rattle.rl_safe.proofs.Encodings.{ArePending, batches_more, encoded-append, encoded_one, mark_read, idle_read, items_read}
+use Rattle.rl_safe.proofs.Encodings.{Encodes, AllEncode, none_encoded, ArePending, batches_more, encoded-append, encoded_one, mark_read, idle_read, items_read}
 use Rattle.rl_safe.proofs.Fits.{Good, seen_at, words_at}
 use Rattle.rl_safe.proofs.Sayings.{says_first, says_items, says_end, says_others, says_own, says_idle, says_idle_others, said_rise, item_decided}
 
@@ -75,12 +75,12 @@ firsts_size setup sized e recovered =
 
 -- a batch that is read back is proposed
 stream_more : (S : Setting) (e s : ℕ) (first log : Log) (c d : Core) (xs ys : List Item) (b : bytes.Batch) (batch : Batch)
-    → StreamOk S e s first log c xs → batch_of b ≡ Some batch → Says S e s (batches_of (tail_of first log) ++ batch ∷ []) d ys
+    → StreamOk S e s first log c xs → Encodes b batch → Says S e s (batches_of (tail_of first log) ++ batch ∷ []) d ys
     → StreamOk S e s first (log ++ b ∷ []) d ys
 stream_more S e s first log c d xs ys b batch h is says = record {
   begins = prefix_trans first log (log ++ b ∷ []) h.begins (prefix_more log (b ∷ []));
-  encoded = ap are_batches tail_more ∙ encoded-append (tail_of first log) (b ∷ []) h.encoded (encoded_one b batch is);
-  says = subst (λ z. Says S e s z d ys) (sym (ap batches_of tail_more ∙ batches_more (tail_of first log) b batch is)) says;
+  encoded = subst AllEncode (sym tail_more) (encoded-append (tail_of first log) (b ∷ []) h.encoded (encoded_one b batch is));
+  says = subst (λ z. Says S e s z d ys) (sym (ap batches_of tail_more ∙ batches_more (tail_of first log) b batch is.0)) says;
 }
   where
     tail_more : tail_of first (log ++ b ∷ []) ≡ tail_of first log ++ b ∷ []
@@ -166,7 +166,7 @@ module _ (setup : Setup) (initial : List Log) (lead : Lead) (account : Account) 
 
 -- ---- an Ack ----
 
-ack_log : (x : Leading) (node len : ℕ) → (with_ack x node len).log ≡ x.log
+pub ack_log : (x : Leading) (node len : ℕ) → (with_ack x node len).log ≡ x.log
 ack_log x node len = by_test (is_node (length x.acked) node)
   where
     by_test : (b : Bool) → (if b then record x { acked = slice_set x.acked (node - 1) (max (get_or x.acked (node - 1) 0) len) } else x).log ≡ x.log
@@ -219,16 +219,16 @@ module _ (setup : Setup) (initial : List Log) (lead : Lead) (account : Account) 
 -- ---- the streams of a new leader ----
 
 -- a stream on which nothing was proposed yet
-abbrev IsNew : Leading → Type 0
+abbrev pub IsNew : Leading → Type 0
 IsNew x = x.initial_len ≡ length x.log
 
-new_at : (e nodes quorum : ℕ) (logs : List Log) (i : ℕ) → IsNew (get_or (map (new_leading e nodes quorum) logs) i no_stream)
+pub new_at : (e nodes quorum : ℕ) (logs : List Log) (i : ℕ) → IsNew (get_or (map (new_leading e nodes quorum) logs) i no_stream)
 new_at e nodes quorum [] i = refl
 new_at e nodes quorum (log ∷ logs) zero = refl
 new_at e nodes quorum (log ∷ logs) (suc i) = new_at e nodes quorum logs i
 
 -- its initial log is its log
-whole : (x : Leading) → IsNew x → initial_log_of x ≡ x.log
+pub whole : (x : Leading) → IsNew x → initial_log_of x ≡ x.log
 whole x new = take_all x.initial_len x.log (omega (arith, new))
 
 module _ (setup : Setup) (sized : SetupFits setup) (c : Candidate) (low : 1 ≤ c.epoch) (high : c.epoch < 2 ^ 20) where
@@ -245,7 +245,7 @@ module _ (setup : Setup) (sized : SetupFits setup) (c : Candidate) (low : 1 ≤ 
       (first_at (first_logs setup fresh) s) (log_at fresh.streams s) (core_of setup c.epoch (carried_in setup (first_logs setup fresh)) []) []
   fresh_each s = record {
     begins = ([], append-nil (first_at (first_logs setup fresh) s) ∙ first_whole s);
-    encoded = ap are_batches no_tail;
+    encoded = subst AllEncode (sym no_tail) none_encoded;
     says = subst (λ log. Says (own_setting (leader_of setup c.epoch (carried_in setup (first_logs setup fresh)))) c.epoch s (batches_of log)
         (core_of setup c.epoch (carried_in setup (first_logs setup fresh)) []) []) (sym no_tail) (says_first (leader_of setup c.epoch (carried_in setup (first_logs setup fresh))) s);
   }
@@ -314,7 +314,7 @@ module _ (b : Below) (setup : Setup) (sized : SetupFits setup) (initial : List L
         let mark = marked lead.streams marks (s - 1) (omega (arith, low, high, size)) in
         ap batches_of (take_all (len_acknowledged x) x.log (omega (arith, new, mark)))
         ∙ ap batches_of (sym (whole x new) ∙ sym (first_of lead.streams (s - 1)) ∙ ap (λ logs. first_at logs s) h.firsts ∙ ends s there)
-        ∙ batches_more (carried_at initial s) (batch_bytes (open_mark lead.epoch)) (open_mark lead.epoch) (mark_read b lead.epoch h.term.low h.term.high)
+        ∙ batches_more (carried_at initial s) (batch_bytes (open_mark lead.epoch)) (open_mark lead.epoch) (mark_read b lead.epoch h.term.low h.term.high).0
         ∙ ap (λ t. (if t then batches_of (carried_at initial s) else []) ++ open_mark lead.epoch ∷ []) (sym there)
 
     pub opens_with : acknowledged_history lead ≡ opening_of setup lead.epoch (carried_in setup initial)
@@ -429,7 +429,7 @@ module _ (b : Below) (setup : Setup) (sized : SetupFits setup) (initial : List L
         → LeadOk setup initial (with_leading (with_pending lead w []) w (proposed (leading lead w) (batch_bytes (Items all_pending)))) flushed_account
     proposes_pending some few =
         let old = h.term.each w there in
-        let read : batch_of (batch_bytes (Items all_pending)) ≡ Some (Items all_pending) =
+        let read : Encodes (batch_bytes (Items all_pending)) (Items all_pending) =
         items_read b m good.fits h.term.low h.term.high w range_of.0 (let last = sized.few_workers in omega (arith, last, range_of.1)) all_pending (are_pending some few) in
         changes setup initial lead account h w there (proposed (leading lead w) (batch_bytes (Items all_pending))) core account.turns []
         (long_more (batch_bytes (Items all_pending))) (first_proposed (leading lead w) (batch_bytes (Items all_pending)) (h.begun w there)) has_is

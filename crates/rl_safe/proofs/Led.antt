@@ -3,9 +3,10 @@ use Rattle.std.proofs.Common.{◌≡◌, ℕ, true, Ok, Contains, refl, ap, sym,
 use Rattle.rl_base.proofs.Members.{contains_in, all_in}
 use Rattle.rl_events.proofs.Kept.{expanded_fit}
 use Rattle.rl_events.specs.Fits.{EventFits}
+use Rattle.rl_families.specs.Logs.{items_along}
 use Rattle.rl_paxos.specs.Quorums.{is_node}
 use Rattle.rl_msg.specs.Parts.{head_of}
-use Rattle.rl_nodes.specs.Batches.{batches_of, are_batches}
+use Rattle.rl_nodes.specs.Batches.{batches_of}
 use Rattle.rl_nodes.specs.Answers.{Did, Answer, quiet, sending}
 use Rattle.rl_nodes.specs.Elections.{sends_again, crashed, returned, lost}
 use Rattle.rl_nodes.specs.Events.{expanded_events}
@@ -23,10 +24,18 @@ use Rattle.rl_nodes.proofs.Tied.{TiedRun}
 use Rattle.rl_nodes.specs.BadMessages.{is_bad}
 use Rattle.rl_safe.specs.Laws.{RunsAreLed}
 use Rattle.rl_safe.proofs.Below.{Below}
-use Rattle.rl_safe.proofs.Accounts.{no_account, recovered_of, opening_of, leaders_of, PartOk, Inv}
+use Rattle.rl_safe.proofs.Accounts.{no_account, recovered_of, proposed_of, opening_of, leaders_of, PartOk, Inv}
+use Rattle.rl_election.specs.Chosen.{IsLeaderLog}
+use Rattle.rl_msg.specs.Ranges.{EmbeddedBatchInRange}
+use Rattle.rl_paxos.specs.Logs as bytes
+use Rattle.rl_nodes.specs.Streams.{stream_world}
+use Rattle.rl_safe.proofs.Encodings.{AllEncode, are_encoded}
+use Rattle.rl_safe.proofs.Listed.{all_from}
 use Rattle.rl_safe.proofs.Drives.{Own, Steps, Flushes, Idles, Elects, Ticks, Crashes, Returns, Loses, Plays, Stays, Holds, events_hold}
+use Rattle.rl_safe.proofs.KnownRuns.{kept_in_runs}
+use Rattle.rl_safe.proofs.Opened.{AllOpened, opened_kept, first_opened, proposed_opened}
 use Rattle.rl_safe.proofs.Moves.{Held, Answers, still, follows, elected, steps_held, flushes_held, idles_held, takes_held}
-use Rattle.rl_safe.proofs.Told.{are_leaders, are_serial, log_is, initial_is, encoded_at}
+use Rattle.rl_safe.proofs.Told.{are_leaders, are_serial, log_is, initial_is, encoded_at, fits_at}
 
 -- a world of a run, which is one of the streams and of which all this holds
 abbrev Reached : Setup → World → Type 0
@@ -99,17 +108,24 @@ runs_are_led b run =
     let reached : Reached setup w = subst (Holds setup (Reached setup) (stays b setup sized)) run.ends
     (events_hold setup (Reached setup) (stays b setup sized) (expanded_events setup run.events)
     (λ e i. all_in (EventFits setup.nodes setup.workers) (expanded_events setup run.events) all_fit e i) (new_world setup) (first b setup sized)) in
+    let opened : AllOpened setup w =
+    (kept_in_runs setup (AllOpened setup) (opened_kept setup) (first_opened setup) sized run.events run.events_fit w run.ends).1 in
     let r : TiedRun setup w = reached.0 in
     let accounts = reached.1.0 in
     let inv : Inv setup w accounts = reached.1.1 in
     let in_streams : (s : ℕ) → Contains (stream_numbers setup) s → is_node setup.workers s ≡ true = λ s c. in_numbers setup.workers s (contains_in (stream_numbers setup) s c) in
+    let encoded_log : (e s : ℕ) → Contains (stream_numbers setup) s → (log : bytes.Log) → IsLeaderLog (stream_world setup w) e s log → AllEncode log =
+    λ e s c log k. subst AllEncode k.log_is (encoded_at b setup sized r.events w.terms r.tied.terms accounts inv.epochs e k.term k.term_is s (in_streams s c)) in
     record {
       leaders = leaders_of setup w.terms accounts;
       are_leaders = are_leaders b setup sized r.events w.terms r.tied.terms accounts inv.epochs;
       serial = are_serial b setup sized r.events w.terms r.tied.terms accounts inv.epochs;
       logs = λ e s c log k. ap batches_of (sym k.log_is) ∙ log_is b setup sized r.events w.terms r.tied.terms accounts inv.epochs e k.term k.term_is s (in_streams s c);
       initials = λ e s c log k. ap batches_of (sym k.initial_is) ∙ initial_is b setup sized r.events w.terms r.tied.terms accounts inv.epochs e k.term k.term_is s (in_streams s c);
-      encoded = λ e s c log k. ap are_batches (sym k.log_is) ∙ encoded_at b setup sized r.events w.terms r.tied.terms accounts inv.epochs e k.term k.term_is s (in_streams s c);
+      encoded = λ e s c log k. are_encoded log (encoded_log e s c log k);
+      short = λ e s c log k. all_from EmbeddedBatchInRange log (λ b i. (encoded_log e s c log k b i).1.1);
+      fit = λ e x c. fits_at b setup sized r.events w.terms r.tied.terms accounts inv.epochs e x (contains_in _ x c);
       openings = λ o c. let k = inv.openings o (contains_in w.openings o c) in k.items ∙ ap (λ t. opening_of setup o.epoch (recovered_of setup t)) (sym k.is);
+      opened = λ e s x c. proposed_opened setup w opened e s x (contains_in (items_along (proposed_of setup (w.terms e) s)) x c);
       refusals = λ f c. inv.refusals f (contains_in w.refusals f c);
     }

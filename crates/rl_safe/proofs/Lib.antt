@@ -21,8 +21,10 @@ pub mod Drives
 pub mod Elections
 pub mod Encodings
 pub mod Epochs
+pub mod Fair
 pub mod Fits
 pub mod Happens
+pub mod InRange
 pub mod JoinedSafe
 pub mod KnownGrowth
 pub mod KnownLists
@@ -33,7 +35,10 @@ pub mod KnownWorlds
 pub mod Leads
 pub mod Led
 pub mod Listed
+pub mod Messages
 pub mod Moves
+pub mod Opened
 pub mod Origins
 pub mod Sayings
+pub mod Sent
 pub mod Told

@@ -12,6 +12,7 @@ use Rattle.rl_base.specs.declared.stamp.Stamp.{Stamp}
 use Rattle.rl_base.proofs.Members.{In, in_prefix, map_in, in_contains, contains_in}
 use Rattle.rl_base.proofs.OrderLemmas.{below_packed}
 use Rattle.rl_txn.specs.declared.batch.Batch.{Batch}
+use Rattle.rl_txn.specs.Fits.{ItemWritesFit}
 use Rattle.rl_txn.specs.declared.item.Item.{Item}
 use Rattle.rl_txn.specs.Serial.{rows_after, Runs, indexes_of}
 use Rattle.rl_batch.specs.Encoding.{batch_bytes}
@@ -25,13 +26,13 @@ use Rattle.rl_families.specs.LeadersLogs.{AreSerialLeaders, FollowOn}
 use Rattle.rl_families.specs.Logs.{stamps_along, items_along}
 use Rattle.rl_families.proofs.Rising.{Rises, from_rises, above_append}
 use Rattle.rl_worker.specs.Opening.{OpenLeader, first_of, item_seen}
-use Rattle.rl_nodes.specs.Batches.{batches_of, are_batches, END_SEQ}
+use Rattle.rl_nodes.specs.Batches.{batches_of, END_SEQ}
 use Rattle.rl_nodes.specs.Openings.{next_request}
 use Rattle.rl_nodes.specs.Setups.{Setup, SetupFits, cluster_of}
 use Rattle.rl_safe.proofs.Below.{Below}
 use Rattle.rl_safe.proofs.Accounts.{Account, first_at, carried_at, log_at, tail_of, carried_in, recovered_of, proposed_of, opening_of, leader_of, core_of, open_items, decided_of, waiting_of, leaders_of, TermOk, EpochOk}
 use Rattle.rl_safe.proofs.CoreTurns.{was_made, made_between, strictly_rest}
-use Rattle.rl_safe.proofs.Encodings.{batches-append, batches_more, encoded-append, encoded_one, encoded_front, mark_read}
+use Rattle.rl_safe.proofs.Encodings.{AllEncode, none_encoded, batches-append, batches_more, encoded-append, encoded_one, encoded_front, mark_read}
 use Rattle.rl_safe.proofs.Fits.{Good, good, decided_ok}
 use Rattle.rl_safe.proofs.Leads.{firsts_size}
 use Rattle.rl_safe.proofs.Origins.{Recovers, stamp_from}
@@ -237,7 +238,7 @@ module _ (b : Below) (setup : Setup) (sized : SetupFits setup) (events : List St
   initial_is e t is s there =
       let ok = term_at e t is in
       ap batches_of (mark_ends e t is s there)
-      ∙ batches_more (carried_at t.initial s) (batch_bytes (open_mark e)) (open_mark e) (mark_read b e ok.low ok.high)
+      ∙ batches_more (carried_at t.initial s) (batch_bytes (open_mark e)) (open_mark e) (mark_read b e ok.low ok.high).0
       ∙ ap (λ c. (if c then batches_of (carried_at t.initial s) else []) ++ open_mark e ∷ []) (sym there)
       ∙ ap (λ o. recovered_of setup o s ++ open_mark e ∷ []) (sym is)
 
@@ -355,26 +356,34 @@ module _ (b : Below) (setup : Setup) (sized : SetupFits setup) (events : List St
   }
 
   -- each element of a log encodes a batch
-  encoded_up : (bound e : ℕ) → e < bound → (t : Term) → terms e ≡ Some t → (s : ℕ) → is_node setup.workers s ≡ true → are_batches (log_at t.streams s) ≡ true
+  encoded_up : (bound e : ℕ) → e < bound → (t : Term) → terms e ≡ Some t → (s : ℕ) → is_node setup.workers s ≡ true → AllEncode (log_at t.streams s)
   encoded_up zero e less t is s there = absurd (omega (arith, less))
   encoded_up (suc bound) e less t is s there =
       let ok = term_at e t is in
       let o = origin e t is s there in
       let first = first_at t.initial s in
       let log = log_at t.streams s in
-      ap are_batches (joined first log (ok.each s there).begins)
-      ∙ encoded-append first (tail_of first log)
-      (ap are_batches o.initial_is ∙ encoded-append o.carried (batch_bytes (open_mark e) ∷ []) (elim o.from [
-        | inl none ↦ ap are_batches none
+      let carried : AllEncode o.carried = elim o.from [
+        | inl none ↦ subst AllEncode (sym none) none_encoded
         | inr k ↦ (
             let adopted = k.is_adopted in
             let u = adopted.is_log.term in
             let u_is : terms k.earlier ≡ Some u = ap (λ f. f k.earlier) (sym same) ∙ adopted.is_log.term_is in
             encoded_front o.carried adopted.within.0
-            (ap are_batches (adopted.within.1 ∙ sym adopted.is_log.log_is) ∙ encoded_up bound k.earlier (let low = k.is_earlier in omega (arith, less, low)) u u_is s there)
+            (subst AllEncode (sym (adopted.within.1 ∙ sym adopted.is_log.log_is))
+            (encoded_up bound k.earlier (let low = k.is_earlier in omega (arith, less, low)) u u_is s there))
             )
-      ]) (encoded_one (batch_bytes (open_mark e)) (open_mark e) (mark_read b e ok.low ok.high)))
-      (ok.each s there).encoded
+      ] in
+      subst AllEncode (sym (joined first log (ok.each s there).begins))
+      (encoded-append first (tail_of first log)
+      (subst AllEncode (sym o.initial_is) (encoded-append o.carried (batch_bytes (open_mark e) ∷ []) carried
+      (encoded_one (batch_bytes (open_mark e)) (open_mark e) (mark_read b e ok.low ok.high))))
+      (ok.each s there).encoded)
 
-  pub encoded_at : (e : ℕ) (t : Term) → terms e ≡ Some t → (s : ℕ) → is_node setup.workers s ≡ true → are_batches (log_at t.streams s) ≡ true
+  pub encoded_at : (e : ℕ) (t : Term) → terms e ≡ Some t → (s : ℕ) → is_node setup.workers s ≡ true → AllEncode (log_at t.streams s)
   encoded_at e t is s there = encoded_up (suc e) e (omega arith) t is s there
+
+  -- what is decided fits the tables
+  pub fits_at : (e : ℕ) (x : Item) → In x (all.decided e) → ItemWritesFit setup.program.tables x
+  fits_at e x = by_epoch e (λ o. In x (decided_of setup e o (accounts e)) → ItemWritesFit setup.program.tables x) (λ i. absurd i)
+      (λ t is i. (decided_ok b setup sized e (Some t) (accounts e) (good_term e t is) x i).fits)

@@ -18,7 +18,7 @@ use Rattle.rl_nodes.specs.Safe.{history_of, AreChosen}
 use Rattle.rl_nodes.specs.Setups.{cluster_of, node_numbers, stream_numbers}
 use Rattle.rl_nodes.specs.Streams.{stream_world}
 use Rattle.rl_nodes.specs.World.{World, Opened, Given, node_of}
-use Rattle.rl_safe.specs.Led.{IsLed}
+use Rattle.rl_safe.specs.Led.{HasOpened, IsLed}
 use Rattle.rl_safe.specs.Runs.{Run}
 
 -- ---- the logs of a run ----
@@ -75,6 +75,11 @@ ForLedRuns P = (run : Run) (led : IsLed run.setup run.world) → P run led.leade
 -- nothing, or its open mark and then a prefix of what its leader proposed on that stream
 abbrev pub LogsHaveWhatIsProposed : Type 0
 LogsHaveWhatIsProposed = ForLedRuns (λ run l. (x : RunLog run) (epoch : ℕ) → 0 < epoch → EpochPart l epoch x.stream (batches_of x.log))
+
+-- so a log has items of an epoch only where a leader of it has opened
+abbrev pub ItemsAreOfOpenedEpochs : Type 0
+ItemsAreOfOpenedEpochs = (run : Run) (x : RunLog run) (item : Item) → Contains (items_along (batches_of x.log)) item
+    → HasOpened run.world item.stamp.epoch
 
 -- an item that an epoch's leader decided for the worker of a stream, up to the last seq of that epoch in a log of the stream
 pub record IsReached (run : Run) (l : Leaders) (x : RunLog run) (item : Item) : Type 0 where

@@ -2,3 +2,4 @@ pub mod Runs
 pub mod Led
 pub mod Elections
 pub mod Laws
+pub mod Messages

@@ -1,12 +1,14 @@
 //! Laws of every run: the contract of each function is the law.
 
 ghost use Rattle.rl_nodes.specs.Laws.{EveryRunIsSafe};
-ghost use Rattle.rl_safe.specs.Elections.{LogsHaveWhatIsProposed, LogsHaveAllUpToTheLast, EpochsDecide, OpeningListsStand, LaterLogsBeginOpeningLists, EpochsSettle, ReleasedIsNeverCut};
+ghost use Rattle.rl_safe.specs.Elections.{LogsHaveWhatIsProposed, LogsHaveAllUpToTheLast, EpochsDecide, ItemsAreOfOpenedEpochs, OpeningListsStand, LaterLogsBeginOpeningLists, EpochsSettle, ReleasedIsNeverCut};
 ghost use Rattle.rl_safe.specs.Laws.{RunsAreLed, LedRunsAreSafe};
+ghost use Rattle.rl_safe.specs.Messages.{MessagesAreInRange, MessagesReadBack};
 ghost use Rattle.rl_safe.specs.Runs.{SomeRunReleases};
 
 use rl_batch::laws as batches;
 use rl_election::laws as streams;
+use rl_msg::laws as messages;
 use rl_txn::laws as transactions;
 use rl_worker::laws as workers;
 
@@ -25,6 +27,7 @@ pub fn runs_are_led()
     ensures { RunsAreLed }
 {
     batches::reads_back();
+    batches::short();
     streams::leader_logs();
     transactions::rows();
     transactions::words();
@@ -56,9 +59,10 @@ pub fn epochs_decide()
     ensures { EpochsDecide }
 {}
 
-/// An epoch opens with one list, for good; and what its leader opens with or releases from begins the history of the initial
+/// Items of an epoch are in a log only where a leader of it has opened. An epoch opens with one list, for good; and what its leader opens with or releases from begins the history of the initial
 /// logs of each later epoch.
 pub fn opening_lists_stand()
+    ensures before { ItemsAreOfOpenedEpochs }
     ensures one { OpeningListsStand }
     ensures later { LaterLogsBeginOpeningLists }
 {
@@ -71,5 +75,15 @@ pub fn epochs_settle()
     ensures settled { EpochsSettle }
     ensures released { ReleasedIsNeverCut }
 {
+    runs_are_led();
+}
+
+/// Each message that was sent in a run is in range of its encoding, so that its bytes read back as it.
+pub fn messages_are_in_range()
+    ensures in_range { MessagesAreInRange }
+    ensures read_back { MessagesReadBack }
+{
+    streams::leader_logs();
+    messages::reads_back();
     runs_are_led();
 }

@@ -4,6 +4,7 @@ use Rattle.rl_safe.proofs.laws.runs_are_led.Goals as goal
 pub returns : goal.returns
 returns c = led.runs_are_led (record {
   read_back = c.reads_back.ensures.read_back;
+  short = c.short.ensures;
   origins = c.leader_logs.ensures.origins;
   owners = c.leader_logs.ensures.owners;
   candidates = c.leader_logs.ensures.candidates;
