@@ -5,3 +5,4 @@ pub mod Items
 pub mod Logs
 pub mod Outer
 pub mod Sends
+pub mod Shown

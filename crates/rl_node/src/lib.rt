@@ -8,6 +8,7 @@ mod part;
 mod running;
 mod sending;
 pub mod setup;
+mod viewing;
 
 pub use rl_nodes::node_error::NodeError;
 pub use rl_nodes::view::{NodeView, Role, State, StreamView, StreamViews};
