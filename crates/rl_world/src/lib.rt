@@ -1,0 +1,7 @@
+//! The world of all nodes, in which the events of a script happen.
+#![tactic(auto)]
+
+mod blocks;
+pub mod laws;
+mod lines;
+mod releases;
