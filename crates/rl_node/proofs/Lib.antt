@@ -1,0 +1,6 @@
+pub mod Beginnings
+pub mod Changes
+pub mod Items
+pub mod Logs
+pub mod Outer
+pub mod Sends

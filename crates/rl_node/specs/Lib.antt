@@ -1,0 +1,12 @@
+pub mod Addressed
+pub mod Beginning
+pub mod Changing
+pub mod Doing
+pub mod Fits
+pub mod Inner
+pub mod Named
+pub mod Outs
+pub mod Sending
+pub mod SetupOf
+pub mod Standing
+pub mod Wrong

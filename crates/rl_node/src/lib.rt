@@ -1,0 +1,12 @@
+//! One node: its acceptor, its replica, and its part as a candidate or a leader.
+#![tactic(auto)]
+
+pub mod answer;
+pub mod node;
+
+mod part;
+mod running;
+pub mod setup;
+
+pub use rl_nodes::node_error::NodeError;
+pub use rl_nodes::view::{NodeView, Role, State, StreamView, StreamViews};
