@@ -5,3 +5,5 @@ mod blocks;
 pub mod laws;
 mod lines;
 mod releases;
+mod told;
+pub mod world_error;
