@@ -1,5 +1,6 @@
 pub mod Beginnings
 pub mod Changes
+pub mod Elections
 pub mod Items
 pub mod Logs
 pub mod Outer

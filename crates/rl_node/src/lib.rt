@@ -2,10 +2,11 @@
 #![tactic(auto)]
 
 pub mod answer;
+mod electing;
 pub mod node;
-
 mod part;
 mod running;
+mod sending;
 pub mod setup;
 
 pub use rl_nodes::node_error::NodeError;
