@@ -1,0 +1,9 @@
+pub mod LastReleased
+pub mod Names
+pub mod Pending
+pub mod Results
+pub mod Rows
+pub mod Sending
+pub mod Setups
+pub mod Streams
+pub mod Taking

@@ -1,0 +1,8 @@
+-- What follows of a result that is an error.
+use Rattle.std.proofs.Common.{◌≡◌, Result, Ok, Err, sym, subst}
+use Rattle.std.specs.Result.{IsErrAnd, IfErr}
+
+-- an error that is a known one has what is true of that
+pub known_error : {T E : Type 0} (P : E → Type 0) (e : E) (r : Result T E) → IsErrAnd r (λ x. x ≡ e) → P e → IfErr r P
+known_error P e (Ok x) is h = tt
+known_error P e (Err x) is h = subst P (sym is) h

@@ -1,0 +1,8 @@
+//! Laws of the runs of scripts: the contract of each function is the law.
+
+ghost use Rattle.rl_world.specs.Laws.{ScriptsMakeSetups};
+
+/// The run of a script keeps the ranges and limits of a run.
+pub fn scripts_make_setups()
+    ensures { ScriptsMakeSetups }
+{}

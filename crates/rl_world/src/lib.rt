@@ -1,0 +1,9 @@
+//! The world of all nodes, in which the events of a script happen.
+#![tactic(auto)]
+
+mod blocks;
+pub mod laws;
+mod lines;
+mod releases;
+mod told;
+pub mod world_error;

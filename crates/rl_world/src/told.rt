@@ -1,0 +1,105 @@
+//! What was sent, released and told.
+
+ghost use Rattle.std.specs.Prelude.{◌≡◌, ℕ, ◌<◌, ◌≤◌, [], ◌++◌, length, map, option_to_list, OnOk, IfErr};
+ghost use Rattle.std.specs.Option.{option_map, option_map_or};
+ghost use Rattle.rl_base.specs.declared.limit.TheConstants.{BYTES};
+ghost use Rattle.rl_net.specs.Messages.{bytes_sent};
+ghost use Rattle.rl_world.specs.Refusing.{IsByBytes};
+ghost use Rattle.rl_world.specs.Reported.{denied_lines};
+ghost use Rattle.rl_world.specs.Telling.{message_of, opened_middle, HasTaken};
+
+use crate::lines::push_denied;
+use crate::releases::release;
+use crate::world_error::WorldError;
+use rl_base::memory::Memory;
+use rl_net::net::Net;
+use rl_node::answer::{Opened, Out, Sends};
+use rl_paxos::refused::Refused;
+use rl_report::middle::{Lines, Middle};
+use rl_txn::item::Items;
+use std::alloc::Global;
+
+/// The messages and how many there are, the released list, and the lines of the report so far.
+#[derive(Drop)]
+pub struct Told {
+    pub net: Net,
+    pub sent: u64,
+    pub released: Items,
+    pub lines: Lines,
+}
+
+impl Told {
+    /// Nothing yet.
+    pub fn new(alloc: Global) -> Told
+        ensures { result ≡ record { net = []; sent = 0; released = []; lines = [] } }
+    {
+        Told {
+            net: Net::new(alloc),
+            sent: 0,
+            released: Items::new(alloc),
+            lines: Lines::new(alloc),
+        }
+    }
+
+    /// Takes what a node hands out at the message of a number, or at 0 where it received none.
+    ///
+    /// `Limit` exactly where the bytes of all messages would be more than their limit; `Memory`.
+    pub fn take(&mut self, number: u64, node: u32, out: Out) -> Result<(), WorldError>
+        requires few { bytes_sent self.old.net ≤ BYTES }
+        requires count { self.old.sent ≡ length self.old.net }
+        ensures taken { OnOk result (HasTaken self.old self.new number node out) }
+        ensures refused { IfErr result
+            (IsByBytes (BYTES < bytes_sent (self.old.net ++ map message_of out.sends))) }
+    {
+        let Out {
+            sends,
+            opened,
+            denied,
+            released,
+        } = out;
+        self.send(sends)?;
+        release(&mut self.released, released)?;
+        self.tell(number, node, denied, opened)?;
+        Ok(())
+    }
+
+    /// Sends some messages.
+    fn send(&mut self, sends: Sends) -> Result<(), WorldError>
+        requires few { bytes_sent self.old.net ≤ BYTES }
+        requires count { self.old.sent ≡ length self.old.net }
+        ensures sent { OnOk result (self.new.net ≡ self.old.net ++ map message_of sends) }
+        ensures few { OnOk result (bytes_sent self.new.net ≤ BYTES) }
+        ensures count { OnOk result (self.new.sent ≡ length self.new.net) }
+        ensures refused { IfErr result (IsByBytes (BYTES < bytes_sent (self.old.net ++ map message_of sends))) }
+        ensures released { self.new.released ≡ self.old.released }
+        ensures lines { self.new.lines ≡ self.old.lines }
+    {
+        for message in sends.into_vec() {
+            self.sent = self.net.send(message.to, message.bytes)?;
+        }
+        Ok(())
+    }
+
+    /// Tells why a node refused a message, and that it opened.
+    fn tell(
+        &mut self,
+        number: u64,
+        node: u32,
+        denied: Option<Refused>,
+        opened: Option<Opened>,
+    ) -> Result<(), Memory>
+        ensures lines { OnOk result (self.new.lines ≡ self.old.lines
+            ++ (option_map_or (denied_lines number node) denied [] ++ option_to_list (option_map (opened_middle node) opened))) }
+        ensures net { self.new.net ≡ self.old.net }
+        ensures sent { self.new.sent ≡ self.old.sent }
+        ensures released { self.new.released ≡ self.old.released }
+    {
+        if let Some(refused) = denied {
+            push_denied(&mut self.lines, number, node, refused)?;
+        }
+        if let Some(Opened { epoch, count }) = opened {
+            self.lines.push(Middle::Opened { epoch, node, count })?;
+        }
+        Ok(())
+    }
+}
