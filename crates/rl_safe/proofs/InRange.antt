@@ -36,7 +36,7 @@ use Rattle.rl_safe.proofs.Listed.{all_from, in_at}
 
 -- ---- lists and counts ----
 
-same_at : {A : Type 0} (xs : List A) (k : ℕ) (c d : A) → k < length xs → get_or xs k c ≡ get_or xs k d
+pub same_at : {A : Type 0} (xs : List A) (k : ℕ) (c d : A) → k < length xs → get_or xs k c ≡ get_or xs k d
 same_at [] k c d l = absurd (omega (arith, l))
 same_at (x ∷ xs) zero c d l = refl
 same_at (x ∷ xs) (suc k) c d l = same_at xs k c d (omega (arith, l))

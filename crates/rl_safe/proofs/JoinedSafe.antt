@@ -5,6 +5,7 @@ use Rattle.rl_base.proofs.Members.{in_contains, contains_in, all_in}
 use Rattle.rl_base.proofs.OrderLemmas.{same_stamp}
 use Rattle.rl_base.proofs.Prefixes.{prefix_trans}
 use Rattle.rl_base.proofs.Tests.{both_true}
+use Rattle.rl_paxos.specs.Acceptors.{kept_ballot}
 use Rattle.rl_paxos.specs.Logs as bytes
 use Rattle.rl_paxos.specs.Quorums.{is_node}
 use Rattle.rl_txn.specs.declared.item.Item.{Item}
@@ -42,7 +43,7 @@ use Rattle.rl_nodes.proofs.Tied.{TiedRun}
 use Rattle.rl_safe.specs.Laws.{LedRunsAreSafe}
 use Rattle.rl_safe.specs.Led.{IsLed}
 use Rattle.rl_safe.proofs.KnownLists.{numbers_in, logs_are, map_same, map_inside, batches_begin}
-use Rattle.rl_safe.proofs.KnownGrowth.{ChosenAt, ChosenPart, LeaderPart, leader_part, begins_choice, len_stays}
+use Rattle.rl_safe.proofs.KnownGrowth.{ChosenAt, ChosenPart, chosen_part, LeaderPart, leader_part, begins_choice, len_stays}
 use Rattle.rl_safe.proofs.KnownNodes.{family_of, AreStamped, NodeOk}
 use Rattle.rl_safe.proofs.KnownWorlds.{IsGiven, AllKnown, all_known}
 
@@ -165,7 +166,7 @@ module _ (setup : Setup) (sized : SetupFits setup) (w : World) (led : IsLed setu
     ok = known.nodes a
 
     parts : (s : ℕ) → There s → LeaderPart v s (known_log x s)
-    parts s there = leader_part (cluster_of setup) v s (known_log x s) (ok.chosen s there)
+    parts s there = leader_part (cluster_of setup) v s (known_log x s) (chosen_part (cluster_of setup) v s (kept_ballot x.acceptor s) (known_log x s) (ok.chosen s there))
 
     one_family : IsStamped (known_family setup x)
     one_family = stamped (λ s. known_log x s) parts
@@ -192,7 +193,7 @@ module _ (setup : Setup) (sized : SetupFits setup) (w : World) (led : IsLed setu
 
     replica_safe : ReplicaIsSafe setup whole x
     replica_safe = record {
-      known = nests (λ s. known_log x s) chosen (λ s there. part_in s (known_log x s) there (ok.chosen s there)) chosen_parts;
+      known = nests (λ s. known_log x s) chosen (λ s there. part_in s (known_log x s) there (chosen_part (cluster_of setup) v s (kept_ballot x.acceptor s) (known_log x s) (ok.chosen s there))) chosen_parts;
       applied = replica.counted;
       rows = λ at. rows_at_watermark setup.program.rows (known_family setup x) x.replica one_family replica ok.working (same_items at);
     }

@@ -38,6 +38,13 @@ pub record ChosenAt (g : Cluster) (v : StreamWorld) (e s : ℕ) (log : bytes.Log
 abbrev pub ChosenPart : Cluster → StreamWorld → (s : ℕ) → bytes.Log → Type 0
 ChosenPart g v s log = (log ≡ []) ⊎ ((e : ℕ) × ChosenAt g v e s log)
 
+-- the epoch being at most some ballot
+abbrev pub ChosenBy : Cluster → StreamWorld → (s top : ℕ) → bytes.Log → Type 0
+ChosenBy g v s top log = (log ≡ []) ⊎ ((e : ℕ) × (e ≤ top) × ChosenAt g v e s log)
+
+pub chosen_part : (g : Cluster) (v : StreamWorld) (s top : ℕ) (log : bytes.Log) → ChosenBy g v s top log → ChosenPart g v s log
+chosen_part g v s top log k = elim k [ inl e ↦ inl e | inr c ↦ inr (c.0, c.2) ]
+
 -- a log that begins some leader's
 pub record BeginsLeader (v : StreamWorld) (s : ℕ) (log : bytes.Log) : Type 0 where
   pub epoch : ℕ
@@ -103,6 +110,9 @@ module _ (g : Cluster) (v after : StreamWorld) (later : Later g v after) where
 
   pub part_stays : (s : ℕ) (log : bytes.Log) → is_stream g s ≡ true → ChosenPart g v s log → ChosenPart g after s log
   part_stays s log there k = elim k [ inl e ↦ inl e | inr c ↦ inr (c.0, chosen_stays c.0 s log there c.1) ]
+
+  pub by_stays : (s top : ℕ) (log : bytes.Log) → is_stream g s ≡ true → ChosenBy g v s top log → ChosenBy g after s top log
+  by_stays s top log there k = elim k [ inl e ↦ inl e | inr c ↦ inr (c.0, c.1, chosen_stays c.0 s log there c.2) ]
 
   pub leader_stays : (s : ℕ) (log : bytes.Log) → is_stream g s ≡ true → LeaderPart v s log → LeaderPart after s log
   leader_stays s log there k = elim k [

@@ -10,7 +10,7 @@ use Rattle.rl_base.specs.Lists.{IsPrefix}
 use Rattle.rl_base.specs.Results.{◌>>=◌}
 use Rattle.rl_base.specs.declared.limit.TheConstants.{SLOTS}
 use Rattle.rl_base.proofs.Members.{In, in_split, map_in}
-use Rattle.rl_base.proofs.Tests.{neither}
+use Rattle.rl_base.proofs.Tests.{neither, true_lt}
 use Rattle.rl_paxos.specs.declared.refused.Refused.{Refused}
 use Rattle.rl_paxos.specs.Acceptors.{Kept, nothing_kept, kept_ballot, kept_log, refuses, refuses_accept, prepared, with_kept, synced, accepted}
 use Rattle.rl_paxos.specs.Leaders.{proposed, acked_len}
@@ -50,7 +50,8 @@ Holds x y s = known_len x s ≤ length (kept_log x.acceptor s)
 
 -- a node knows the same; it takes a Known; it loses what it knows; or its replica plays
 pub data Moves (setup : Setup) (sent : List Msg) (x y : NodeState) : Type 0 where
-  Keeps : y.known ≡ x.known → y.replica ≡ x.replica → ((s : ℕ) → is_node setup.workers s ≡ true → Holds x y s) → Moves setup sent x y
+  Keeps : y.known ≡ x.known → y.replica ≡ x.replica → ((s : ℕ) → is_node setup.workers s ≡ true → Holds x y s)
+      → ((s : ℕ) → kept_ballot x.acceptor s ≤ kept_ballot y.acceptor s) → Moves setup sent x y
   Learns : (from to e s len : ℕ) → In (msg.Known from to e s len) sent → y ≡ knows x e s len → Moves setup sent x y
   Forgets : y.known ≡ nothing_known setup → y.replica ≡ opening_replica setup → Moves setup sent x y
   Replays : (s : ℕ) → is_node setup.workers s ≡ true → y ≡ plays setup x s → Moves setup sent x y
@@ -145,6 +146,7 @@ module _ (setup : Setup) (sent : List Msg) (a : ℕ) (x : NodeState) where
       (λ (kept : List Kept). (known_len x s ≤ length (slice_index_or kept (s - 1) nothing_kept).log)
       × (take (known_len x s) (slice_index_or kept (s - 1) nothing_kept).log ≡ known_log x s))
       (sym streams) (h, refl))
+      (λ s. subst (λ (kept : List Kept). kept_ballot x.acceptor s ≤ (slice_index_or kept (s - 1) nothing_kept).ballot) (sym streams) (omega arith))
 
   parted : (part : Part) → Moves setup sent x (record x { part = part })
   parted part = same (record x { part = part }) refl refl refl
@@ -235,9 +237,9 @@ module _ (setup : Setup) (sent : List Msg) (a : ℕ) (x : NodeState) where
       nothing
 
   -- a log that begins with what is known
-  adopted : (e s : ℕ) (log : bytes.Log) → IsPrefix (known_log x s) log
+  adopted : (e s : ℕ) (log : bytes.Log) → IsPrefix (known_log x s) log → nat_lt (kept_ballot x.acceptor s) e ≡ true
       → Moves setup sent x (record x { acceptor = with_kept (prepared x.acceptor e) s e log })
-  adopted e s log begun = Keeps refl refl (λ t there.
+  adopted e s log begun higher = Keeps refl refl (λ t there.
       by_set
       (λ (k : Kept). known_len x t ≤ length (kept_log x.acceptor t) → (known_len x t ≤ length k.log)
       × (take (known_len x t) k.log ≡ known_log x t))
@@ -245,11 +247,14 @@ module _ (setup : Setup) (sent : List Msg) (a : ℕ) (x : NodeState) where
       (λ here h. front_stays (known_len x t) (kept_log x.acceptor t) log h
       (subst (λ i. IsPrefix (take (slice_index x.known i) (slice_index_or x.acceptor.streams i nothing_kept).log) log) (sym here) begun))
       (λ h. (h, refl)))
+      (λ t. by_set (λ (k : Kept). kept_ballot x.acceptor t ≤ k.ballot) x.acceptor.streams (s - 1) (t - 1) (record { ballot = e; log = log }) nothing_kept
+      (λ here. subst (λ i. (slice_index_or x.acceptor.streams i nothing_kept).ballot ≤ e) (sym here)
+      (let less = true_lt (kept_ballot x.acceptor s) e higher in omega (arith, less))) (omega arith))
 
   synced_moves : (from to e s : ℕ) (log : bytes.Log) → is_untrue x (msg.Sync from to e s log) ≡ false → refuses x.acceptor e ≡ None
       → (higher : Bool) → nat_lt (kept_ballot x.acceptor s) e ≡ higher
       → Moves setup sent x (record x { acceptor = if higher then with_kept (prepared x.acceptor e) s e log else prepared x.acceptor e })
-  synced_moves from to e s log true_of takes true is = adopted e s log (sync_begins x from to e s log true_of takes is)
+  synced_moves from to e s log true_of takes true is = adopted e s log (sync_begins x from to e s log true_of takes is) is
   synced_moves from to e s log true_of takes false is = same (record x { acceptor = prepared x.acceptor e }) refl refl refl
 
   sync_fine : (from to e s : ℕ) (log : bytes.Log) → is_untrue x (msg.Sync from to e s log) ≡ false → (o : Option Refused)
@@ -282,6 +287,9 @@ module _ (setup : Setup) (sent : List Msg) (a : ℕ) (x : NodeState) where
             (batch ∷ []) h,
       ))
       (λ h. (h, refl)))
+      (λ t. by_set (λ (k : Kept). kept_ballot x.acceptor t ≤ k.ballot) x.acceptor.streams (s - 1) (t - 1)
+      (record { ballot = kept_ballot x.acceptor s; log = kept_log x.acceptor s ++ batch ∷ [] }) nothing_kept
+      (λ here. subst (λ i. (slice_index_or x.acceptor.streams i nothing_kept).ballot ≤ kept_ballot x.acceptor s) (sym here) (omega arith)) (omega arith))
   appended s batch false = same x refl refl refl
 
   takes_fine : (m : Msg) → In m sent → NamesOne setup (stream_named m) → is_untrue x m ≡ false → FineTo (takes setup a x m)

@@ -42,7 +42,7 @@ use Rattle.rl_nodes.proofs.Deliveries.{in_numbers}
 use Rattle.rl_nodes.proofs.Runs.{same_in}
 use Rattle.rl_nodes.proofs.Tied.{TiedRun}
 use Rattle.rl_safe.proofs.KnownLists.{by_set, node_low, node_high, range_length, map_length, map_same, map_inside, front, fronts, front_short, batches_begin}
-use Rattle.rl_safe.proofs.KnownGrowth.{ChosenPart, LeaderPart, leader_part, Later, part_stays, leader_stays, len_stays}
+use Rattle.rl_safe.proofs.KnownGrowth.{ChosenAt, ChosenPart, ChosenBy, chosen_part, LeaderPart, leader_part, Later, by_stays, leader_stays, len_stays}
 use Rattle.rl_safe.proofs.KnownMoves.{Holds, Moves, Keeps, Learns, Forgets, Replays}
 
 -- ---- logs of leaders ----
@@ -79,9 +79,9 @@ telling_stays setup v after later (msg.Ack from to e s len) h = tt
 -- ---- a node ----
 
 pub record NodeOk (setup : Setup) (v : StreamWorld) (x : NodeState) : Type 0 where
-  -- what it knows of a stream is part of its log, and chosen
+  -- what it knows of a stream is part of its log, and chosen at an epoch up to its ballot
   pub within : (s : ℕ) → is_node setup.workers s ≡ true → known_len x s ≤ length (kept_log x.acceptor s)
-  pub chosen : (s : ℕ) → is_node setup.workers s ≡ true → ChosenPart (cluster_of setup) v s (known_log x s)
+  pub chosen : (s : ℕ) → is_node setup.workers s ≡ true → ChosenBy (cluster_of setup) v s (kept_ballot x.acceptor s) (known_log x s)
   -- its replica follows that, and never ran out of memory
   pub replica : AreStamped setup v → IsReplicaOf setup.program.rows (known_family setup x) x.replica
   pub working : x.replica.failed ≡ false
@@ -118,12 +118,20 @@ module _ (setup : Setup) (v : StreamWorld) where
   known_stamped x stamped chosen =
       stamped (λ s. known_log x s) (λ s there. leader_part (cluster_of setup) v s (known_log x s) (chosen s there))
 
+  known_parts : (x : NodeState) → Good x → (s : ℕ) → is_node setup.workers s ≡ true → ChosenPart (cluster_of setup) v s (known_log x s)
+  known_parts x ok s there = chosen_part (cluster_of setup) v s (kept_ballot x.acceptor s) (known_log x s) (ok.chosen s there)
+
   -- it knows the same
   keeps : (x y : NodeState) → Good x → y.known ≡ x.known → y.replica ≡ x.replica → ((s : ℕ) → is_node setup.workers s ≡ true → Holds x y s)
+      → ((s : ℕ) → kept_ballot x.acceptor s ≤ kept_ballot y.acceptor s)
       → Good y
-  keeps x y ok known replica holds = record {
+  keeps x y ok known replica holds ballots = record {
     within = λ s there. subst (λ n. n ≤ length (kept_log y.acceptor s)) (len_same s) (holds s there (ok.within s there)).0;
-    chosen = λ s there. subst (ChosenPart (cluster_of setup) v s) (sym (log_same s there)) (ok.chosen s there);
+    chosen = λ s there. elim (ok.chosen s there) [
+      | inl e ↦ inl (log_same s there ∙ e)
+      | inr c ↦ (let low = c.1 in let up = ballots s in
+          inr (c.0, omega (arith, low, up), subst (ChosenAt (cluster_of setup) v c.0 s) (sym (log_same s there)) c.2))
+    ];
     replica = λ stamped.
         subst (IsReplicaOf setup.program.rows (known_family setup y)) (sym replica)
         (subst (λ family. IsReplicaOf setup.program.rows family x.replica) (sym family_same) (ok.replica stamped));
@@ -184,7 +192,7 @@ module _ (setup : Setup) (v : StreamWorld) where
         within = ok.within;
         chosen = ok.chosen;
         replica =
-            λ stamped. played_ok (known_family setup x) s (known_stamped x stamped ok.chosen) (stream_is x s there)
+            λ stamped. played_ok (known_family setup x) s (known_stamped x stamped (known_parts x ok)) (stream_is x s there)
             (length (entries (log_at (known_family setup x) s))) x.replica (ok.replica stamped);
         working = played_works (known_family setup x) s (length (entries (log_at (known_family setup x) s))) x.replica ok.working;
       }
@@ -201,7 +209,7 @@ module _ (setup : Setup) (v : StreamWorld) where
   -- ---- it learns that more is chosen ----
 
   module _ (x : NodeState) (ok : Good x) (e s len : ℕ) (there : is_node setup.workers s ≡ true) (t : Term) (is : v.terms e ≡ Some t)
-      (acked : is_chosen_len (cluster_of setup) v e s len ≡ true) (kept : IsPrefix (kept_log x.acceptor s) (stream_of t s).log) where
+      (ballot : kept_ballot x.acceptor s ≡ e) (acked : is_chosen_len (cluster_of setup) v e s len ≡ true) (kept : IsPrefix (kept_log x.acceptor s) (stream_of t s).log) where
     abbrev more : ℕ
     more = max (known_len x s) (min len (length (kept_log x.acceptor s)))
 
@@ -209,14 +217,15 @@ module _ (setup : Setup) (v : StreamWorld) where
     now = record x { known = slice_set x.known (s - 1) more }
 
     -- the new front of the log is chosen
-    new_chosen : ChosenPart (cluster_of setup) v s (take more (kept_log x.acceptor s))
+    new_chosen : ChosenBy (cluster_of setup) v s (kept_ballot x.acceptor s) (take more (kept_log x.acceptor s))
     new_chosen = elim (cases_lt (known_len x s) (min len (length (kept_log x.acceptor s)))) [
       | inl above ↦ (
           let m : more ≡ min len (length (kept_log x.acceptor s)) = omega (arith, above) in
           let short = front_short (min len (length (kept_log x.acceptor s))) (kept_log x.acceptor s) in
-          subst (λ n. ChosenPart (cluster_of setup) v s (take n (kept_log x.acceptor s))) (sym m)
+          subst (λ n. ChosenBy (cluster_of setup) v s (kept_ballot x.acceptor s) (take n (kept_log x.acceptor s))) (sym m)
           (inr (
             e,
+            omega (arith, ballot),
             record {
               term = t;
               term_is = is;
@@ -228,7 +237,7 @@ module _ (setup : Setup) (v : StreamWorld) where
           )))
       | inr below ↦ (
           let m : more ≡ known_len x s = omega (arith, below) in
-          subst (λ n. ChosenPart (cluster_of setup) v s (take n (kept_log x.acceptor s))) (sym m) (ok.chosen s there))
+          subst (λ n. ChosenBy (cluster_of setup) v s (kept_ballot x.acceptor s) (take n (kept_log x.acceptor s))) (sym m) (ok.chosen s there))
     ]
 
     -- by stream: what is known of this one, and of the others
@@ -244,8 +253,8 @@ module _ (setup : Setup) (v : StreamWorld) where
         no_other : (r s : ℕ) → 1 ≤ r → 1 ≤ s → r - 1 ≡ s - 1 → r ≡ s
         no_other r s a b e = omega arith
 
-    all_chosen : (r : ℕ) → is_node setup.workers r ≡ true → ChosenPart (cluster_of setup) v r (known_log now r)
-    all_chosen = by_stream (λ r n. ChosenPart (cluster_of setup) v r (take n (kept_log x.acceptor r))) new_chosen ok.chosen
+    all_chosen : (r : ℕ) → is_node setup.workers r ≡ true → ChosenBy (cluster_of setup) v r (kept_ballot x.acceptor r) (known_log now r)
+    all_chosen = by_stream (λ r n. ChosenBy (cluster_of setup) v r (kept_ballot x.acceptor r) (take n (kept_log x.acceptor r))) new_chosen ok.chosen
 
     longer : (r : ℕ) → is_node setup.workers r ≡ true → IsPrefix (known_log x r) (known_log now r)
     longer = by_stream (λ r n. IsPrefix (known_log x r) (take n (kept_log x.acceptor r)))
@@ -256,11 +265,11 @@ module _ (setup : Setup) (v : StreamWorld) where
       within = by_stream (λ r n. n ≤ length (kept_log x.acceptor r)) (let k = ok.within s there in omega (arith, k)) ok.within;
       chosen = all_chosen;
       replica =
-          λ stamped. replicas_go_on setup.program.rows (known_family setup x) x.replica (known_stamped x stamped ok.chosen)
+          λ stamped. replicas_go_on setup.program.rows (known_family setup x) x.replica (known_stamped x stamped (known_parts x ok))
           (ok.replica stamped)
           (known_family setup now) (map_inside (λ r. batches_of (known_log x r)) (λ r. batches_of (known_log now r)) (stream_numbers setup)
           (λ r i. batches_begin (known_log x r) (known_log now r) (longer r (in_numbers setup.workers r i))))
-          (known_stamped now stamped all_chosen);
+          (known_stamped now stamped (λ r in_stream. chosen_part (cluster_of setup) v r (kept_ballot x.acceptor r) (known_log now r) (all_chosen r in_stream)));
       working = ok.working;
     }
 
@@ -273,14 +282,14 @@ module _ (setup : Setup) (v : StreamWorld) where
             known = slice_set x.known (s - 1)
                 (max (known_len x s) (min len (length (kept_log x.acceptor s))));
           } else x)
-      by_ballot true same = learned x ok e s len k.1 k.0 k.2 k.3 (kept s e k.1 (true_same (kept_ballot x.acceptor s) e same) k.0 k.2)
+      by_ballot true same = learned x ok e s len k.1 k.0 k.2 (true_same (kept_ballot x.acceptor s) e same) k.3 (kept s e k.1 (true_same (kept_ballot x.acceptor s) e same) k.0 k.2)
       by_ballot false other = ok
 
   -- ---- any of these ----
 
   pub moves_ok : (sent : List Msg) (x y : NodeState) → Good x → KeepsLogs setup v x → ((m : Msg) → In m sent → TellsChosen setup v m)
       → Moves setup sent x y → Good y
-  moves_ok sent x y ok kept known (Keeps same replica holds) = keeps x y ok same replica holds
+  moves_ok sent x y ok kept known (Keeps same replica holds ballots) = keeps x y ok same replica holds ballots
   moves_ok sent x y ok kept known (Learns from to e s len i is) =
       subst Good (sym is) (learns x ok kept from to e s len (known (msg.Known from to e s len) i))
   moves_ok sent x y ok kept known (Forgets same replica) = forgets y same replica
@@ -295,7 +304,7 @@ pub node_stays : (setup : Setup) (v after : StreamWorld) → Later (cluster_of s
     → NodeOk setup after x
 node_stays setup v after later x ok = record {
   within = ok.within;
-  chosen = λ s there. part_stays (cluster_of setup) v after later s (known_log x s) there (ok.chosen s there);
+  chosen = λ s there. by_stays (cluster_of setup) v after later s (kept_ballot x.acceptor s) (known_log x s) there (ok.chosen s there);
   replica = λ stamped. ok.replica (stamped_before setup v after later stamped);
   working = ok.working;
 }

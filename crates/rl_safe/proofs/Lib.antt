@@ -15,6 +15,7 @@
 -- and the released list begins each list that all histories begin from which leaders released. JoinedSafe: where runs are led, the
 -- history of the longest chosen logs is such a list.
 pub mod Accounts
+pub mod Bad
 pub mod Below
 pub mod CoreTurns
 pub mod Drives

@@ -5,8 +5,9 @@ use Rattle.rl_msg.specs.Laws as encoding
 use Rattle.rl_nodes.proofs.Growing.{messages}
 use Rattle.rl_nodes.proofs.Tied.{TiedRun}
 use Rattle.rl_safe.specs.Laws.{RunsAreLed}
-use Rattle.rl_safe.specs.Messages.{MessagesAreInRange, MessagesReadBack}
+use Rattle.rl_safe.specs.Messages.{MessagesAreInRange, MessagesReadBack, NoMessageIsBad}
 use Rattle.rl_safe.specs.Runs.{Run}
+use Rattle.rl_safe.proofs.Bad.{not_bad}
 use Rattle.rl_safe.proofs.Fair.{AllFair, fair_kept, first_fair}
 use Rattle.rl_safe.proofs.InRange.{in_range}
 use Rattle.rl_safe.proofs.KnownRuns.{kept_in_runs}
@@ -27,3 +28,7 @@ messages_are_in_range origins led run m =
 
 pub messages_read_back : encoding.MessagesReadBack → MessagesAreInRange → MessagesReadBack
 messages_read_back reads range run m = reads m.message (range run m)
+
+pub no_message_is_bad : InitialLogsHaveOrigins → RunsAreLed → NoMessageIsBad
+no_message_is_bad origins led run m =
+    not_bad run (led run) (known origins run).0 (known origins run).1 (all_fair origins run) m.message (contains_in (messages run.world.sent) m.message m.was_sent)

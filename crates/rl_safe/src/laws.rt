@@ -3,7 +3,7 @@
 ghost use Rattle.rl_nodes.specs.Laws.{EveryRunIsSafe};
 ghost use Rattle.rl_safe.specs.Elections.{LogsHaveWhatIsProposed, LogsHaveAllUpToTheLast, EpochsDecide, ItemsAreOfOpenedEpochs, OpeningListsStand, LaterLogsBeginOpeningLists, EpochsSettle, ReleasedIsNeverCut};
 ghost use Rattle.rl_safe.specs.Laws.{RunsAreLed, LedRunsAreSafe};
-ghost use Rattle.rl_safe.specs.Messages.{MessagesAreInRange, MessagesReadBack};
+ghost use Rattle.rl_safe.specs.Messages.{MessagesAreInRange, MessagesReadBack, NoMessageIsBad};
 ghost use Rattle.rl_safe.specs.Runs.{SomeRunReleases};
 
 use rl_batch::laws as batches;
@@ -85,5 +85,13 @@ pub fn messages_are_in_range()
 {
     streams::leader_logs();
     messages::reads_back();
+    runs_are_led();
+}
+
+/// No message that was sent in a run is bad at its receiver, whenever and however often it is delivered.
+pub fn no_message_is_bad()
+    ensures { NoMessageIsBad }
+{
+    streams::leader_logs();
     runs_are_led();
 }
