@@ -18,7 +18,6 @@ pub mod Accounts
 pub mod Bad
 pub mod Below
 pub mod CoreTurns
-pub mod Drives
 pub mod Elections
 pub mod Encodings
 pub mod Epochs
