@@ -25,7 +25,7 @@ use Rattle.rl_nodes.specs.Streams.{stream_world}
 use Rattle.rl_safe.proofs.Encodings.{AllEncode, are_encoded}
 use Rattle.rl_safe.proofs.Listed.{all_from}
 use Rattle.rl_safe.proofs.CoreTurns.{by_if}
-use Rattle.rl_safe.proofs.KnownRuns.{Cause, Takes, Steps, Flushes, Idles, Elects, Ticks, Crashes, Returns, Loses, Plays, answer_to, IsFor, IsKept, kept_in_runs}
+use Rattle.rl_nodes.proofs.Runs.{Cause, Takes, Steps, Flushes, Idles, Elects, Ticks, Crashes, Returns, Loses, Plays, answer_to, IsFor, IsKept, kept_in_runs}
 use Rattle.rl_nodes.proofs.Growing.{messages}
 use Rattle.rl_nodes.specs.declared.node_error.NodeError.TheVariants.{BadMessage}
 use Rattle.rl_safe.proofs.Opened.{AllOpened, opened_kept, first_opened, proposed_opened}

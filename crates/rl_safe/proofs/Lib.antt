@@ -2,7 +2,7 @@
 -- epoch, the turns of its leader's workers and what is pending. The opening list of an epoch is the history of its initial logs, and its
 -- core is that after these turns. An epoch is led at most once, since a candidate's epoch has no leader yet.
 --
--- That each run is led. Below: the laws of the crates below, as their functions ensure them. KnownRuns: what holds of the first world
+-- That each run is led. Below: the laws of the crates below, as their functions ensure them. Runs, of nodes: what holds of the first world
 -- and is kept by each change of a world holds in every run. Accounts: the witness, and what holds of it between any two events: along a
 -- stream, behind its initial log, and then among what is pending, are the worker's ended items in their order, and the stamps that
 -- it made, and then the end mark or none. CoreTurns: what one turn does to a core, by worker. Sayings: what a stream says stays true
@@ -39,7 +39,6 @@ pub mod KnownGrowth
 pub mod KnownLists
 pub mod KnownMoves
 pub mod KnownNodes
-pub mod KnownRuns
 pub mod KnownWorlds
 pub mod Leads
 pub mod Led
