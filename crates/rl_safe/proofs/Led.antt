@@ -29,7 +29,8 @@ use Rattle.rl_nodes.proofs.Runs.{Cause, Takes, Steps, Flushes, Idles, Elects, Ti
 use Rattle.rl_nodes.proofs.Growing.{messages}
 use Rattle.rl_nodes.specs.declared.node_error.NodeError.TheVariants.{BadMessage}
 use Rattle.rl_safe.proofs.Opened.{AllOpened, opened_kept, first_opened, proposed_opened}
-use Rattle.rl_safe.proofs.Moves.{Held, Answers, still, follows, elected, steps_held, flushes_held, idles_held, takes_held}
+use Rattle.rl_safe.proofs.Held.{Held}
+use Rattle.rl_safe.proofs.Moves.{Answers, still, follows, elected, steps_held, flushes_held, idles_held, takes_held}
 use Rattle.rl_safe.proofs.Told.{are_leaders, are_serial, log_is, initial_is, encoded_at, fits_at}
 
 module _ (b : Below) (setup : Setup) (sized : SetupFits setup) where

@@ -8,8 +8,8 @@
 -- it made, and then the end mark or none. CoreTurns: what one turn does to a core, by worker. Sayings: what a stream says stays true
 -- through turns, proposals and marks. Encodings: what a leader proposes is read back, and short. Origins: each batch of a log was
 -- proposed by the leader of some epoch. Fits: so each core opens with rows that fit and stamps of earlier epochs, epoch after epoch.
--- Leads: what a leader does keeps what holds of it. Opened: only a leader that has opened proposes. Told: the accounts are leaders as
--- the laws of families ask, and the logs are theirs. Moves: what a node does keeps what holds of all epochs and nodes. Led: so each run
+-- LeadStreams, Leads: what a leader does keeps what holds of it. Opened: only a leader that has opened proposes. Told: the accounts are leaders as
+-- the laws of families ask, and the logs are theirs. Held, Moves: what a node does keeps what holds of all epochs and nodes. Led: so each run
 -- is led.
 --
 -- That led runs are safe, over bytes and without the leaders up to the last step. KnownLists: lists of what stands at numbers, and
@@ -33,6 +33,7 @@ pub mod Epochs
 pub mod Fair
 pub mod Fits
 pub mod Happens
+pub mod Held
 pub mod InRange
 pub mod JoinedSafe
 pub mod KnownGrowth
@@ -40,6 +41,7 @@ pub mod KnownLists
 pub mod KnownMoves
 pub mod KnownNodes
 pub mod KnownWorlds
+pub mod LeadStreams
 pub mod Leads
 pub mod Led
 pub mod Listed
