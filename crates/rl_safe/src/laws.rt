@@ -43,7 +43,7 @@ pub fn led_runs_are_safe()
     ensures { LedRunsAreSafe }
 {}
 
-/// There is a run in which two leaders release items, one after the other: so what every run is promised is not promised of none.
+/// There is a run that releases items of two epochs: so what every run is promised is not promised of none.
 pub fn something_happens()
     ensures { SomeRunReleases }
 {}
