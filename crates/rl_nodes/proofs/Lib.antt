@@ -4,7 +4,8 @@
 -- does at that delivery; ChangesInStreams: and so do elections, crashes, returns, losses and proposals. Tied: a world of nodes and
 -- one of streams go with each other, and still do after a node did what the streams do at an event, or nothing of the streams.
 -- Deliveries, OwnEvents: each event is of one of these two kinds; what is sent again was sent before, and each message has a
--- receiver that is there. Runs: so each run is one of the streams. ChosenInRuns: with the same terms and messages the same is chosen.
+-- receiver that is there. Runs: what holds of the first world and is kept by each change of a world holds in every run; so each run is
+-- one of the streams. ChosenInRuns: with the same terms and messages the same is chosen.
 pub mod ChangesInStreams
 pub mod ChosenInRuns
 pub mod Deliveries

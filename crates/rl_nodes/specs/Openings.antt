@@ -1,5 +1,5 @@
 -- How the workers of a leader begin when it opens.
-use Rattle.std.specs.Prelude.{ℕ, ◌+◌, List, [], ◌∷◌, map, sum, length, if◌then◌else◌}
+use Rattle.std.specs.Prelude.{ℕ, ◌+◌, List, [], map, length}
 use Rattle.std.specs.List.{range_with_len}
 use Rattle.rl_value.specs.Rows.{Rows}
 use Rattle.rl_value.specs.Tables.{Table}

@@ -1,5 +1,5 @@
 -- What the workers of an open leader do in their turns, and what it proposes for them.
-use Rattle.std.specs.Prelude.{ℕ, suc, ◌-◌, ◌*◌, ◌^◌, ◌==◌, ◌&&◌, not, nat_lt, List, [], ◌++◌, length, Bool, find, if◌then◌else◌, Option, Some, None, option_to_list, option_map, slice_get, Ok, Err}
+use Rattle.std.specs.Prelude.{ℕ, ◌-◌, ◌*◌, ◌^◌, ◌==◌, ◌&&◌, not, nat_lt, List, [], ◌++◌, length, Bool, if◌then◌else◌, Some, option_to_list, option_map, Ok, Err}
 use Rattle.std.specs.Option.{option_map_or}
 use Rattle.rl_base.specs.Results.{◌>>=◌}
 use Rattle.rl_base.specs.declared.limit.TheConstants.{SLOTS}

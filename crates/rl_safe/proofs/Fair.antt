@@ -34,9 +34,9 @@ use Rattle.rl_safe.proofs.Accounts.{first_at}
 use Rattle.rl_safe.proofs.KnownGrowth.{Later, later}
 use Rattle.rl_safe.proofs.KnownLists.{by_set}
 use Rattle.rl_safe.proofs.KnownMoves.{NamesOne}
-use Rattle.rl_safe.proofs.KnownRuns as runs
-use Rattle.rl_safe.proofs.KnownRuns.{after_step, IsKept}
-use Rattle.rl_safe.proofs.Leads.{whole}
+use Rattle.rl_nodes.proofs.Runs as runs
+use Rattle.rl_nodes.proofs.Runs.{after_step, IsKept}
+use Rattle.rl_safe.proofs.LeadStreams.{whole}
 use Rattle.rl_safe.proofs.Sent.{Said, Own, Back, AckKept, EpochIn, PartFair, PartFull, Small, PartSmall, Fair, goes}
 
 -- the sender and the stream are there, the epoch is in range and its owner's, and no part is lacking

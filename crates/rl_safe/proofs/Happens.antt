@@ -1,4 +1,4 @@
--- A worked run with two elections and a crash: both leaders release.
+-- A worked run with two elections and a crash releases items of both epochs.
 use Rattle.std.proofs.Common.{◌≡◌, ℕ, zero, suc, ◌<◌, ◌^◌, List, [], ◌∷◌, map, All, Result, Ok, Err, Some, None, refl, ap, sym, ◌∙◌, subst, arith, inl, inr}
 use Rattle.std.specs.FinMap as finite
 use Rattle.rl_base.specs.Results.{◌>>=◌}
@@ -195,7 +195,7 @@ events_fit = each Fits cut_events (
   ),
 )
 
--- ---- both leaders release ----
+-- ---- items of both epochs ----
 
 pub some_run_releases : SomeRunReleases
 unfolding lines_in

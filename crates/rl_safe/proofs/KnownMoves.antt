@@ -39,7 +39,7 @@ use Rattle.rl_nodes.proofs.Deliveries.{in_numbers, flat_in, not_false}
 use Rattle.rl_nodes.proofs.InStreams.{after_ack, taken_of}
 use Rattle.rl_nodes.proofs.Telling.{tests_tell}
 use Rattle.rl_safe.proofs.KnownLists.{by_set, front_stays}
-use Rattle.rl_safe.proofs.KnownRuns.{Cause, Takes, Steps, Flushes, Idles, Elects, Ticks, Crashes, Returns, Loses, Plays, answer_to, IsFor}
+use Rattle.rl_nodes.proofs.Runs.{Cause, Takes, Steps, Flushes, Idles, Elects, Ticks, Crashes, Returns, Loses, Plays, answer_to, IsFor}
 
 -- ---- what becomes of what it knows ----
 

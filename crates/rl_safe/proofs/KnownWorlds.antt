@@ -32,7 +32,7 @@ use Rattle.rl_nodes.proofs.Growing.{messages}
 use Rattle.rl_nodes.proofs.Runs.{new_nodes}
 use Rattle.rl_nodes.proofs.Tied.{TiedRun, between}
 use Rattle.rl_safe.proofs.KnownLists.{by_set, map_places}
-use Rattle.rl_safe.proofs.KnownRuns.{Step, after_step, kept_in_runs}
+use Rattle.rl_nodes.proofs.Runs.{Step, after_step, kept_in_runs}
 use Rattle.rl_safe.proofs.KnownGrowth.{ChosenAt, Later, chosen_stays, later, all_streams, counted, acknowledged}
 use Rattle.rl_safe.proofs.KnownMoves.{Says, SaysOf, Gives, GivesOf, Opens, OpensWith, Tells, tells}
 use Rattle.rl_safe.proofs.KnownNodes.{family_of, TellsChosen, telling_stays, NodeOk, keeps_logs, moves_ok, forgotten_ok, node_stays}

@@ -1,25 +1,18 @@
 -- Each run is one of leaders as the laws of families ask.
-use Rattle.std.proofs.Common.{◌≡◌, ℕ, true, Ok, Contains, refl, ap, sym, ◌∙◌, subst}
-use Rattle.rl_base.proofs.Members.{contains_in, all_in}
-use Rattle.rl_events.proofs.Kept.{expanded_fit}
-use Rattle.rl_events.specs.Fits.{EventFits}
+use Rattle.std.proofs.Common.{◌≡◌, ℕ, true, Err, Contains, refl, ap, sym, ◌∙◌, subst}
+use Rattle.rl_base.proofs.Members.{contains_in}
 use Rattle.rl_families.specs.Logs.{items_along}
 use Rattle.rl_paxos.specs.Quorums.{is_node}
-use Rattle.rl_msg.specs.Parts.{head_of}
 use Rattle.rl_nodes.specs.Batches.{batches_of}
-use Rattle.rl_nodes.specs.Answers.{Did, Answer, quiet, sending}
+use Rattle.rl_nodes.specs.Answers.{Answer, quiet, sending}
 use Rattle.rl_nodes.specs.Elections.{sends_again, crashed, returned, lost}
-use Rattle.rl_nodes.specs.Events.{expanded_events}
 use Rattle.rl_nodes.specs.Handles.{takes}
 use Rattle.rl_nodes.specs.Nodes.{NodeState}
 use Rattle.rl_nodes.specs.Setups.{Setup, SetupFits, stream_numbers}
-use Rattle.rl_nodes.specs.Streams.{envelope_of}
 use Rattle.rl_nodes.specs.Views.{plays}
-use Rattle.rl_nodes.specs.World.{World, new_world, node_of, after_doing}
-use Rattle.rl_nodes.proofs.Deliveries.{with_sent, with_told, by_envelope, in_numbers}
-use Rattle.rl_nodes.proofs.InStreams.{taken_of}
-use Rattle.rl_nodes.proofs.OwnEvents as own_events
-use Rattle.rl_nodes.proofs.Runs.{begins, new_nodes}
+use Rattle.rl_nodes.specs.World.{World, new_world, node_of}
+use Rattle.rl_nodes.proofs.Deliveries.{in_numbers}
+use Rattle.rl_nodes.proofs.Runs.{new_nodes}
 use Rattle.rl_nodes.proofs.Tied.{TiedRun}
 use Rattle.rl_nodes.specs.BadMessages.{is_bad}
 use Rattle.rl_safe.specs.Laws.{RunsAreLed}
@@ -31,72 +24,51 @@ use Rattle.rl_paxos.specs.Logs as bytes
 use Rattle.rl_nodes.specs.Streams.{stream_world}
 use Rattle.rl_safe.proofs.Encodings.{AllEncode, are_encoded}
 use Rattle.rl_safe.proofs.Listed.{all_from}
-use Rattle.rl_safe.proofs.Drives.{Own, Steps, Flushes, Idles, Elects, Ticks, Crashes, Returns, Loses, Plays, Stays, Holds, events_hold}
-use Rattle.rl_safe.proofs.KnownRuns.{kept_in_runs}
+use Rattle.rl_safe.proofs.CoreTurns.{by_if}
+use Rattle.rl_nodes.proofs.Runs.{Cause, Takes, Steps, Flushes, Idles, Elects, Ticks, Crashes, Returns, Loses, Plays, answer_to, IsFor, IsKept, kept_in_runs}
+use Rattle.rl_nodes.proofs.Growing.{messages}
+use Rattle.rl_nodes.specs.declared.node_error.NodeError.TheVariants.{BadMessage}
 use Rattle.rl_safe.proofs.Opened.{AllOpened, opened_kept, first_opened, proposed_opened}
-use Rattle.rl_safe.proofs.Moves.{Held, Answers, still, follows, elected, steps_held, flushes_held, idles_held, takes_held}
+use Rattle.rl_safe.proofs.Held.{Held}
+use Rattle.rl_safe.proofs.Moves.{Answers, still, follows, elected, steps_held, flushes_held, idles_held, takes_held}
 use Rattle.rl_safe.proofs.Told.{are_leaders, are_serial, log_is, initial_is, encoded_at, fits_at}
 
--- a world of a run, which is one of the streams and of which all this holds
-abbrev Reached : Setup → World → Type 0
-Reached setup w = TiedRun setup w × Held setup w
-
 module _ (b : Below) (setup : Setup) (sized : SetupFits setup) where
-  first : Reached setup (new_world setup)
+  first : Held setup (new_world setup)
   first = (
-    begins setup,
-    (
-      λ e. no_account,
-      record {
-        epochs = λ e. refl;
-        parts = λ a there. subst (λ (x : NodeState). PartOk setup (λ e. no_account) x.part) (sym (new_nodes setup a)) tt;
-        openings = λ o i. absurd i;
-        refusals = λ f i. absurd i;
-      },
-    ),
+    λ e. no_account,
+    record {
+      epochs = λ e. refl;
+      parts = λ a there. subst (λ (x : NodeState). PartOk setup (λ e. no_account) x.part) (sym (new_nodes setup a)) tt;
+      openings = λ o i. absurd i;
+      refusals = λ f i. absurd i;
+    },
   )
 
-  module _ (w : World) (h : Reached setup w) (a : ℕ) (there : is_node setup.nodes a ≡ true) where
+  module _ (w : World) (r : TiedRun setup w) (h : Held setup w) (a number : ℕ) (there : is_node setup.nodes a ≡ true) where
     abbrev here : NodeState
     here = node_of setup w a
 
-    abbrev Tied : Answer → Type 0
-    Tied answer = own_events.Good setup w h.0 a there answer
-
     abbrev After : Answer → Type 0
-    After answer = Answers b setup sized w h.0 h.1.0 h.1.1 a 0 there answer
+    After answer = Answers b setup sized w r h.0 h.1 a number there answer
 
-    both_after : (answer : Answer) (did : Did) → answer ≡ Ok did → Tied answer → After answer → Reached setup (after_doing w a 0 did)
-    both_after answer did is tied held = (subst Tied is tied, subst After is held)
+    goes : (cause : Cause) → IsFor setup (messages w.sent) cause → After (answer_to setup a here cause)
+    goes (Takes m) is_for = by_if After (is_bad setup a here m) (Err BadMessage) (takes setup a here m) (λ t. tt) (λ t. takes_held b setup sized w r h.0 h.1 a number there m)
+    goes (Steps s) in_stream = steps_held b setup sized w r h.0 h.1 a number there s in_stream
+    goes (Flushes s) in_stream = flushes_held b setup sized w r h.0 h.1 a number there s in_stream
+    goes (Idles s) in_stream = idles_held b setup sized w r h.0 h.1 a number there s in_stream
+    goes Elects is_for = elected b setup sized w r h.0 h.1 a number there
+    goes Ticks is_for = still b setup sized w r h.0 h.1 a number there (sending here (sends_again setup a here.part)) refl tt tt
+    goes Crashes is_for = follows b setup sized w r h.0 h.1 a number there (quiet (crashed setup here)) refl tt tt
+    goes Returns is_for = still b setup sized w r h.0 h.1 a number there (quiet (returned here)) refl tt tt
+    goes Loses is_for = follows b setup sized w r h.0 h.1 a number there (quiet (lost setup here)) refl tt tt
+    goes (Plays s) is_for = still b setup sized w r h.0 h.1 a number there (quiet (plays setup here s)) refl tt tt
 
-    own_done : (did : Did) → Own setup a here did → Reached setup (after_doing w a 0 did)
-    own_done did (Steps s in_stream up is) = both_after _ did is (own_events.steps_good setup w h.0 a there up s in_stream) (steps_held b setup sized w h.0 h.1.0 h.1.1 a 0 there s in_stream)
-    own_done did (Flushes s in_stream up is) = both_after _ did is (own_events.flushes_good setup w h.0 a there up s in_stream) (flushes_held b setup sized w h.0 h.1.0 h.1.1 a 0 there s in_stream)
-    own_done did (Idles s in_stream up is) = both_after _ did is (own_events.idles_good setup w h.0 a there up s in_stream) (idles_held b setup sized w h.0 h.1.0 h.1.1 a 0 there s in_stream)
-    own_done did (Elects up is) = both_after _ did is (own_events.elected setup w h.0 a there up) (elected b setup sized w h.0 h.1.0 h.1.1 a 0 there)
-    own_done did (Ticks up is) = both_after _ did is (own_events.ticked setup w h.0 a there)
-        (still b setup sized w h.0 h.1.0 h.1.1 a 0 there (sending here (sends_again setup a here.part)) refl tt tt)
-    own_done did (Crashes up is) = both_after _ did is (own_events.crashes setup w h.0 a there up)
-        (follows b setup sized w h.0 h.1.0 h.1.1 a 0 there (quiet (crashed setup here)) refl tt tt)
-    own_done did (Returns down is) = both_after _ did is (own_events.returns setup w h.0 a there down)
-        (still b setup sized w h.0 h.1.0 h.1.1 a 0 there (quiet (returned here)) refl tt tt)
-    own_done did (Loses is) = both_after _ did is (own_events.loses setup w h.0 a there)
-        (follows b setup sized w h.0 h.1.0 h.1.1 a 0 there (quiet (lost setup here)) refl tt tt)
-    own_done did (Plays s is) = both_after _ did is (own_events.played setup w h.0 a there s)
-        (still b setup sized w h.0 h.1.0 h.1.1 a 0 there (quiet (plays setup here s)) refl tt tt)
-
-  stays : Stays setup (Reached setup)
-  stays = record {
-    told = λ w h line. (with_told setup w h.0 line, (h.1.0, (let inv = h.1.1 in record { epochs = inv.epochs; parts = inv.parts; openings = inv.openings; refusals = inv.refusals })));
-    marked = λ w h sent same. (with_sent setup w h.0 sent same, (h.1.0, (let inv = h.1.1 in record { epochs = inv.epochs; parts = inv.parts; openings = inv.openings; refusals = inv.refusals })));
-    taken = λ w h number m sent up did is. let at = (head_of m).to in
-        let here : NodeState = node_of setup w at in
-        let there = h.0.tied.receivers m sent in (
-          by_envelope setup w h.0 number m sent (envelope_of m) refl up did is,
-          subst (Answers b setup sized w h.0 h.1.0 h.1.1 at number there) (taken_of (is_bad setup at here m) (takes setup at here m) did is).1
-              (takes_held b setup sized w h.0 h.1.0 h.1.1 at number there m),
-        );
-    done = λ w h a there did own. own_done w h a there did own;
+  held_kept : IsKept setup (Held setup)
+  held_kept = record {
+    told = λ w line h. (h.0, (let inv = h.1 in record { epochs = inv.epochs; parts = inv.parts; openings = inv.openings; refusals = inv.refusals }));
+    marked = λ w sent same h. (h.0, (let inv = h.1 in record { epochs = inv.epochs; parts = inv.parts; openings = inv.openings; refusals = inv.refusals }));
+    does = λ w r h step q. subst (After w r h step.node step.number step.there) step.answers (goes w r h step.node step.number step.there step.cause step.is_for);
   }
 
 pub runs_are_led : Below → RunsAreLed
@@ -104,10 +76,8 @@ runs_are_led b run =
     let setup = run.setup in
     let w = run.world in
     let sized = run.setup_fits in
-    let all_fit = expanded_fit setup.nodes setup.workers run.events sized.some_nodes sized.some_workers run.events_fit in
-    let reached : Reached setup w = subst (Holds setup (Reached setup) (stays b setup sized)) run.ends
-    (events_hold setup (Reached setup) (stays b setup sized) (expanded_events setup run.events)
-    (λ e i. all_in (EventFits setup.nodes setup.workers) (expanded_events setup run.events) all_fit e i) (new_world setup) (first b setup sized)) in
+    let reached : TiedRun setup w × Held setup w =
+    kept_in_runs setup (Held setup) (held_kept b setup sized) (first b setup sized) sized run.events run.events_fit w run.ends in
     let opened : AllOpened setup w =
     (kept_in_runs setup (AllOpened setup) (opened_kept setup) (first_opened setup) sized run.events run.events_fit w run.ends).1 in
     let r : TiedRun setup w = reached.0 in

@@ -10,7 +10,7 @@ use Rattle.rl_safe.specs.Runs.{Run}
 use Rattle.rl_safe.proofs.Bad.{not_bad}
 use Rattle.rl_safe.proofs.Fair.{AllFair, fair_kept, first_fair}
 use Rattle.rl_safe.proofs.InRange.{in_range}
-use Rattle.rl_safe.proofs.KnownRuns.{kept_in_runs}
+use Rattle.rl_nodes.proofs.Runs.{kept_in_runs}
 use Rattle.rl_safe.proofs.KnownWorlds.{AllKnown, all_known}
 
 module _ (origins : InitialLogsHaveOrigins) (run : Run) where

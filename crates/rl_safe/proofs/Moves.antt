@@ -1,8 +1,7 @@
 -- What a node does keeps what holds of all leaders.
-use Rattle.std.proofs.Common.{◌≡◌, ◌≢◌, ℕ, ◌-◌, ◌*◌, ◌^◌, ◌<◌, ◌≤◌, List, [], ◌∷◌, ◌++◌, length, get_or, set, Bool, true, false, not, ◌&&◌, ◌==◌, nat_lt, is_some, if◌then◌else◌, Option, Some, None, Ok, Err, option_to_list, option_map, refl, sym, ap, ◌∙◌, subst, arith, inl, inr, true≢false, eq-eqb, get_or-set_same}
+use Rattle.std.proofs.Common.{◌≡◌, ◌≢◌, ℕ, ◌-◌, ◌*◌, ◌^◌, ◌<◌, ◌≤◌, List, [], ◌∷◌, ◌++◌, length, get_or, set, Bool, true, false, not, ◌&&◌, ◌==◌, nat_lt, if◌then◌else◌, Option, Some, None, Ok, Err, option_to_list, option_map, refl, sym, ap, ◌∙◌, subst, arith, inl, inr, true≢false, eq-eqb, get_or-set_same}
 use mathlib.Core.Bool.{false≢true}
 use Rattle.std.proofs.lemmas.Bool.{cases_eq}
-use Rattle.std.proofs.lemmas.Bool.Decides.{nat_tests}
 use Rattle.std.proofs.lemmas.List.{set-set, length-append}
 use Rattle.std.specs.Option.{option_map_or}
 use Rattle.std.specs.List.{list_any}
@@ -23,7 +22,7 @@ use Rattle.rl_paxos.specs.Acceptors.{refuses, refuses_accept, synced, accepted, 
 use Rattle.rl_paxos.specs.Leaders.{proposed}
 use Rattle.rl_paxos.specs.Logs.{Log}
 use Rattle.rl_paxos.specs.Quorums.{is_node}
-use Rattle.rl_paxos.specs.Recovery.{Promise, Candidate, with_promise, has_promised, recovered_logs}
+use Rattle.rl_paxos.specs.Recovery.{Promise, Candidate, with_promise, recovered_logs}
 use Rattle.rl_election.specs.World as world
 use Rattle.rl_election.specs.World.{StreamWorld, Term}
 use Rattle.rl_election.specs.StreamEvents.{streams_after, candidate_of}
@@ -33,12 +32,11 @@ use Rattle.rl_families.specs.Leaders.{open_mark}
 use Rattle.rl_families.specs.Logs.{stamps_along, last_seq_among}
 use Rattle.rl_families.proofs.Logs.{split_stamps, back_stamps}
 use Rattle.rl_families.proofs.Rising.{last_seq_among_above, last_seq_among_in}
-use Rattle.rl_worker.specs.Acts.{Core, CoreRefusal, Step, Idle, turn, phase_of, resting, is_done}
-use Rattle.rl_worker.specs.Laws.{IsTrueCause, AllTrue}
+use Rattle.rl_worker.specs.Acts.{Core, Step, Idle, turn, phase_of, resting, is_done}
 use Rattle.rl_worker.specs.OneTurn.{newly_refused, newly_ended}
 use Rattle.rl_worker.specs.Opening.{OpenLeader, item_seen, core_after}
 use Rattle.rl_nodes.specs.declared.node_error.NodeError.TheVariants.{StreamFull, NoEpoch}
-use Rattle.rl_nodes.specs.Answers.{Did, Answer, Opening, quiet, sending, unless_denied, to_each}
+use Rattle.rl_nodes.specs.Answers.{Did, Answer, quiet, sending, unless_denied, to_each}
 use Rattle.rl_nodes.specs.Batches.{batches_of, END_SEQ, idle_mark}
 use Rattle.rl_nodes.specs.Elections.{elects, stands}
 use Rattle.rl_nodes.specs.Handles.{promises, acks, knows, new_lead, leads, recovers_full, stands_or_leads, takes_promise, known_to, opens, releases, advances, counts_ack, takes_ack, takes}
@@ -46,79 +44,19 @@ use Rattle.rl_nodes.specs.Nodes.{Lead, NodeState, Part, Follows, Stands, Leads, 
 use Rattle.rl_nodes.specs.Setups.{Setup, SetupFits, cluster_of}
 use Rattle.rl_nodes.specs.Streams.{stream_role, HasTerm}
 use Rattle.rl_nodes.specs.Works.{proposes, proposes_items, stepped, steps_core, may_idle, idles_core, if_open, steps, flushes, idles}
-use Rattle.rl_nodes.specs.World.{World, Opened, Attempt, node_of, term_of, terms_after, after_doing, attempt_of, epoch_led}
+use Rattle.rl_nodes.specs.World.{World, node_of, term_of, terms_after, after_doing, attempt_of, epoch_led}
 use Rattle.rl_nodes.proofs.ChangesInStreams.{by_node}
 use Rattle.rl_nodes.proofs.InStreams.{after_ack, same_terms, some_same}
 use Rattle.rl_nodes.proofs.Tied.{TiedRun, by_place}
 use Rattle.rl_safe.proofs.Below.{Below}
-use Rattle.rl_safe.proofs.Accounts.{Account, no_account, first_at, carried_at, log_at, tail_of, carried_in, opening_of, leader_of, leaders_of, first_logs, TermOk, EpochOk, LeadOk, AllFew, PartOk, OpeningOk, Inv}
+use Rattle.rl_safe.proofs.Accounts.{Account, no_account, first_at, carried_at, log_at, tail_of, carried_in, opening_of, leader_of, leaders_of, first_logs, TermOk, EpochOk, LeadOk, AllFew, PartOk, Inv}
 use Rattle.rl_safe.proofs.CoreTurns.{turn_of, refused_is, by_if}
 use Rattle.rl_safe.proofs.Fits.{Good}
-use Rattle.rl_safe.proofs.Leads.{at_set, counts, begins_to_lead, opened, opens_with, steps as steps_ok, refusal_is, turned_account, proposes_pending, flushed_account, says_none, proposes_end, proposes_idle}
+use Rattle.rl_safe.proofs.LeadStreams.{at_set, counts, begins_to_lead}
+use Rattle.rl_safe.proofs.Leads.{opened, opens_with, steps as steps_ok, refusal_is, turned_account, proposes_pending, flushed_account, says_none, proposes_end, proposes_idle}
 use Rattle.rl_safe.proofs.Sayings.{said_own, end_said}
 use Rattle.rl_safe.proofs.Told.{mark_ends, good_term, log_told, seqs_end}
-
--- a world of which all this holds
-abbrev pub Held : Setup → World → Type 0
-Held setup w = (accounts : ℕ → Account) × Inv setup w accounts
-
--- what a node tells of its opening, and of an attempt that was refused
-abbrev OpenedOk : Setup → (ℕ → Option Term) → (a : ℕ) → Option Opening → Type 0
-OpenedOk setup terms a None = Unit {0}
-OpenedOk setup terms a (Some o) = OpeningOk setup terms (record { epoch = o.epoch; node = a; items = o.items })
-
-abbrev RefusedOk : Option CoreRefusal → Type 0
-RefusedOk None = Unit {0}
-RefusedOk (Some f) = IsTrueCause f.worker f.cause
-
-abbrev opened_at : (a : ℕ) → Opening → Opened
-opened_at a o = record { epoch = o.epoch; node = a; items = o.items }
-
-abbrev attempt_at : (epoch : ℕ) → CoreRefusal → Attempt
-attempt_at epoch f = record { epoch = epoch; refusal = f }
-
-opening_in : (setup : Setup) (terms : ℕ → Option Term) (a : ℕ) (x : Option Opening) → OpenedOk setup terms a x
-    → (o : Opened) → In o (option_to_list (option_map (opened_at a) x)) → OpeningOk setup terms o
-opening_in setup terms a None ok o i = absurd i
-opening_in setup terms a (Some x) ok o i = elim i [ inl e ↦ subst (OpeningOk setup terms) (sym e) ok | inr j ↦ absurd j ]
-
-refusal_in : (epoch : ℕ) (x : Option CoreRefusal) → RefusedOk x → (f : Attempt) → In f (option_to_list (option_map (attempt_at epoch) x))
-    → IsTrueCause f.refusal.worker f.refusal.cause
-refusal_in epoch None ok f i = absurd i
-refusal_in epoch (Some x) ok f i = elim i [ inl e ↦ subst (λ (g : Attempt). IsTrueCause g.refusal.worker g.refusal.cause) (sym e) ok | inr j ↦ absurd j ]
-
-refusal_true : (o : Option CoreRefusal) (fs gs : List CoreRefusal) → gs ≡ option_to_list o ++ fs → AllTrue gs → RefusedOk o
-refusal_true None fs gs e h = tt
-refusal_true (Some f) fs gs e h = (subst AllTrue e h).0
-
--- initial logs stand
-abbrev TermsStay : (old new : ℕ → Option Term) → Type 0
-TermsStay old new = (e : ℕ) (t : Term) → old e ≡ Some t → (u : Term) × (new e ≡ Some u) × (u.initial ≡ t.initial)
-
-terms_same : (terms : ℕ → Option Term) → TermsStay terms terms
-terms_same terms e t is = (t, is, refl)
-
-opening_stays : (setup : Setup) (old new : ℕ → Option Term) → TermsStay old new → (o : Opened) → OpeningOk setup old o → OpeningOk setup new o
-opening_stays setup old new stay o k =
-    let u = stay o.epoch k.term k.is in
-    record { term = u.0; is = u.1; items = k.items ∙ ap (λ initial. opening_of setup o.epoch (carried_in setup initial)) (sym u.2) }
-
-epoch_kept : (c : Candidate) (p : Promise) → (with_promise c p).epoch ≡ c.epoch
-epoch_kept c p = by_if (λ (d : Candidate). d.epoch ≡ c.epoch) (is_node c.nodes p.node && not (has_promised c.promises p.node)) (record c { promises = c.promises ++ p ∷ [] }) c
-    (λ t. refl) (λ t. refl)
-
-not_lt : (m n : ℕ) → nat_lt m n ≡ false → n ≤ m
-not_lt m n h = grind (arith, nat_tests)
-
-some_there : (n : ℕ) → (n == 0) ≡ false → 1 ≤ n
-some_there n h = grind (arith, nat_tests)
-
-not_some : (t : Term) → ◌≡◌ {A = Option Term} None (Some t) → ⊥
-not_some t e = cc
-
-none_core : (o : Option Core) → is_some o ≡ false → o ≡ None
-none_core None h = refl
-none_core (Some c) h = absurd (true≢false h)
+use Rattle.rl_safe.proofs.Held.{Held, OpenedOk, RefusedOk, opened_at, opening_in, refusal_in, refusal_true, TermsStay, terms_same, opening_stays, epoch_kept, not_lt, some_there, not_some, none_core}
 
 module _ (b : Below) (setup : Setup) (sized : SetupFits setup) (w : World) (r : TiedRun setup w) (accounts : ℕ → Account) (inv : Inv setup w accounts)
     (a number : ℕ) (there : is_node setup.nodes a ≡ true) where

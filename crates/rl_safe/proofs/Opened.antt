@@ -41,9 +41,9 @@ use Rattle.rl_nodes.proofs.Runs.{new_nodes}
 use Rattle.rl_safe.specs.Led.{HasOpened}
 use Rattle.rl_safe.proofs.Accounts.{first_at, log_at, tail_of, proposed_of}
 use Rattle.rl_safe.proofs.KnownLists.{by_set}
-use Rattle.rl_safe.proofs.KnownRuns as runs
-use Rattle.rl_safe.proofs.KnownRuns.{Cause, Takes, Steps, Flushes, Idles, Elects, Ticks, Crashes, Returns, Loses, Plays, answer_to, after_step, IsKept}
-use Rattle.rl_safe.proofs.Leads.{IsNew, new_at, whole}
+use Rattle.rl_nodes.proofs.Runs as runs
+use Rattle.rl_nodes.proofs.Runs.{Cause, Takes, Steps, Flushes, Idles, Elects, Ticks, Crashes, Returns, Loses, Plays, answer_to, after_step, IsKept}
+use Rattle.rl_safe.proofs.LeadStreams.{IsNew, new_at, whole}
 
 -- a leader of an epoch has opened
 abbrev pub Began : List Opened → (e : ℕ) → Type 0

@@ -44,8 +44,8 @@ use Rattle.rl_nodes.proofs.Deliveries.{in_numbers, flat_in}
 use Rattle.rl_nodes.proofs.InStreams.{after_ack, taken_of}
 use Rattle.rl_safe.proofs.KnownLists.{by_set}
 use Rattle.rl_safe.proofs.KnownMoves.{NamesOne, not_bad}
-use Rattle.rl_safe.proofs.KnownRuns.{Cause, Takes, Steps, Flushes, Idles, Elects, Ticks, Crashes, Returns, Loses, Plays, answer_to, IsFor}
-use Rattle.rl_safe.proofs.Leads.{IsNew, new_at, ack_log}
+use Rattle.rl_nodes.proofs.Runs.{Cause, Takes, Steps, Flushes, Idles, Elects, Ticks, Crashes, Returns, Loses, Plays, answer_to, IsFor}
+use Rattle.rl_safe.proofs.LeadStreams.{IsNew, new_at, ack_log}
 
 -- ---- what is sent ----
 

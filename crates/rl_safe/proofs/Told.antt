@@ -34,7 +34,7 @@ use Rattle.rl_safe.proofs.Accounts.{Account, first_at, carried_at, log_at, tail_
 use Rattle.rl_safe.proofs.CoreTurns.{was_made, made_between, strictly_rest}
 use Rattle.rl_safe.proofs.Encodings.{AllEncode, none_encoded, batches-append, batches_more, encoded-append, encoded_one, encoded_front, mark_read}
 use Rattle.rl_safe.proofs.Fits.{Good, good, decided_ok}
-use Rattle.rl_safe.proofs.Leads.{firsts_size}
+use Rattle.rl_safe.proofs.LeadStreams.{firsts_size}
 use Rattle.rl_safe.proofs.Origins.{Recovers, stamp_from}
 use Rattle.rl_safe.proofs.Sayings.{said_own, said_rise, item_decided, decided_item}
 

@@ -16,7 +16,7 @@ pub record Run : Type 0 where
   pub events_fit : All (EventFits setup.nodes setup.workers) events
   pub ends : world_after setup events ≡ Ok world
 
--- a run in which two leaders release items, one after the other
+-- a run that releases items of two epochs
 pub record SomeRunReleases : Type 0 where
   pub run : Run
   pub earlier : Item

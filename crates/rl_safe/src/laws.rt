@@ -1,7 +1,8 @@
 //! Laws of every run: the contract of each function is the law.
 
 ghost use Rattle.rl_nodes.specs.Laws.{EveryRunIsSafe};
-ghost use Rattle.rl_safe.specs.Elections.{LogsHaveWhatIsProposed, LogsHaveAllUpToTheLast, EpochsDecide, ItemsAreOfOpenedEpochs, OpeningListsStand, LaterLogsBeginOpeningLists, EpochsSettle, ReleasedIsNeverCut};
+ghost use Rattle.rl_safe.specs.Elections.{LogsHaveWhatIsProposed, LogsHaveAllUpToTheLast, EpochsDecide, EpochsSettle, ReleasedIsNeverCut};
+ghost use Rattle.rl_safe.specs.Elections.{ItemsAreOfOpenedEpochs, OpeningListsStand, LaterLogsBeginOpeningLists};
 ghost use Rattle.rl_safe.specs.Laws.{RunsAreLed, LedRunsAreSafe};
 ghost use Rattle.rl_safe.specs.Messages.{MessagesAreInRange, MessagesReadBack, NoMessageIsBad};
 ghost use Rattle.rl_safe.specs.Runs.{SomeRunReleases};
@@ -42,7 +43,7 @@ pub fn led_runs_are_safe()
     ensures { LedRunsAreSafe }
 {}
 
-/// There is a run in which two leaders release items, one after the other: so what every run is promised is not promised of none.
+/// There is a run that releases items of two epochs: so what every run is promised is not promised of none.
 pub fn something_happens()
     ensures { SomeRunReleases }
 {}
@@ -59,8 +60,8 @@ pub fn epochs_decide()
     ensures { EpochsDecide }
 {}
 
-/// Items of an epoch are in a log only where a leader of it has opened. An epoch opens with one list, for good; and what its leader opens with or releases from begins the history of the initial
-/// logs of each later epoch.
+/// Items of an epoch are in a log only where its leader has opened. An epoch opens with one list, for good; and what its leader
+/// opens with or releases from begins the history of the initial logs of each later epoch.
 pub fn opening_lists_stand()
     ensures before { ItemsAreOfOpenedEpochs }
     ensures one { OpeningListsStand }
