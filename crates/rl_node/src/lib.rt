@@ -1,6 +1,7 @@
 //! One node: its acceptor, its replica, and its part as a candidate or a leader.
 #![tactic(auto)]
 
+mod accepting;
 pub mod answer;
 mod electing;
 pub mod node;
