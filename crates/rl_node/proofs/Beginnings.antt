@@ -1,27 +1,24 @@
 -- Nodes that begin, crash, return and are lost.
-use Rattle.std.proofs.Common.{◌≡◌, ℕ, zero, suc, ◌-◌, ◌≤◌, List, [], ◌∷◌, length, map, replicate, get_or, refl, sym, ap, ◌∙◌, subst, arith, true, false, None, take}
+use Rattle.std.proofs.Common.{◌≡◌, ℕ, zero, suc, ◌-◌, List, [], ◌∷◌, length, map, replicate, get_or, refl, sym, ap, ◌∙◌, subst, arith, true, false, None}
 use Rattle.std.proofs.lemmas.List.{length-replicate}
-use Rattle.rl_election.specs.World.{State, Up, Down, Lost}
+use Rattle.rl_election.specs.World.{Up, Down, Lost}
 use Rattle.rl_families.specs.Streams.{log_at}
-use Rattle.rl_paxos.specs.Acceptors.{Kept, Acceptor, nothing_kept, new_acceptor, kept_of, kept_log}
+use Rattle.rl_paxos.specs.Acceptors.{Acceptor, nothing_kept, new_acceptor, kept_log}
 use Rattle.rl_replay.specs.Standing.{BeginsWithPlayed}
 use Rattle.rl_replay.specs.Laws.{new_replica}
 use Rattle.rl_replay.specs.Replay.{Replaying}
 use Rattle.rl_value.specs.Rows.{Rows}
 use Rattle.rl_txn.specs.declared.batch.Batch.{Batch}
-use Rattle.rl_nodes.specs.Batches.{batches_of}
 use Rattle.rl_nodes.specs.Calls.{Standing}
 use Rattle.rl_nodes.specs.Elections.{crashed, returned, lost}
-use Rattle.rl_nodes.specs.Nodes.{NodeState, Follows, new_node, nothing_known}
+use Rattle.rl_nodes.specs.Nodes.{Follows, nothing_known}
 use Rattle.rl_nodes.specs.Setups.{Setup}
 use Rattle.rl_node.specs.Beginning.{IsNew}
-use Rattle.rl_node.specs.Fits.{IsStream, LogFits, KeptFits, AcceptorFits, IsFront, RunningFits}
-use Rattle.rl_node.specs.Inner.{well}
-use Rattle.rl_node.specs.Standing.{StandsPart, StandsUp, StandsIn, Stands, up_with, away_with, is_running, is_up_in, is_down_in}
+use Rattle.rl_node.specs.Fits.{KeptFits, AcceptorFits, IsFront, RunningFits}
+use Rattle.rl_node.specs.Standing.{StandsPart, StandsUp, StandsIn, Stands, up_with, away_with, is_down_in}
 use Rattle.rl_node.specs.declared.node.Node.{Node}
 use Rattle.rl_node.specs.declared.node.Phase.{Phase}
 use Rattle.rl_node.specs.declared.node.Phase.TheVariants as phase
-use Rattle.rl_node.specs.declared.part.Part.TheVariants as part
 use Rattle.rl_node.specs.declared.running.Running.{Running}
 
 abbrev plays_none : Rows → (streams : ℕ) → Replaying

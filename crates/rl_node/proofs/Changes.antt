@@ -1,13 +1,13 @@
 -- A node with another acceptor and another part.
-use Rattle.std.proofs.Common.{◌≡◌, ℕ, true, refl, sym, ap, subst}
-use Rattle.rl_paxos.specs.Acceptors.{Acceptor, kept_log, prepared}
+use Rattle.std.proofs.Common.{◌≡◌, ℕ, true, refl, subst}
+use Rattle.rl_paxos.specs.Acceptors.{Acceptor}
 use Rattle.rl_nodes.specs.Calls.{Standing}
 use Rattle.rl_nodes.specs.Nodes.{NodeState, Part}
 use Rattle.rl_nodes.specs.Setups.{Setup}
 use Rattle.rl_node.specs.Changing.{with_part_in}
 use Rattle.rl_node.specs.Fits.{AcceptorFits, RunningFits}
 use Rattle.rl_node.specs.Inner.{well}
-use Rattle.rl_node.specs.Standing.{StandsPart, StandsIn, Stands, up_with, is_up_in, is_running}
+use Rattle.rl_node.specs.Standing.{StandsPart, StandsIn, Stands, is_up_in, is_running}
 use Rattle.rl_node.specs.declared.node.Node.{Node}
 use Rattle.rl_node.specs.declared.node.Phase.{Phase}
 use Rattle.rl_node.specs.declared.node.Phase.TheVariants.{Up, Down, Lost}

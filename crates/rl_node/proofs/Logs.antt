@@ -1,21 +1,18 @@
 -- Logs with which nothing is wrong, and their parts.
-use Rattle.std.proofs.Common.{◌≡◌, ◌⊎◌, ℕ, ◌<◌, ◌≤◌, List, [], ◌∷◌, ◌++◌, length, Bool, true, false, not, ◌&&◌, ◌||◌, ◌==◌, nat_lt, Option, Some, None, is_some, refl, sym, ap, ap₂, ◌∙◌, subst, arith, inl, inr, true≢false}
-use Rattle.std.specs.List.{list_all, list_any}
-use Rattle.std.specs.Prelude.{filter_map}
+use Rattle.std.proofs.Common.{◌≡◌, ℕ, ◌≤◌, List, [], ◌++◌, Bool, true, false, not, ◌||◌, ◌==◌, nat_lt, is_some, refl, sym, ap, ◌∙◌, subst, arith, inl, inr, true≢false}
+use Rattle.std.specs.List.{list_all}
 use Rattle.std.proofs.lemmas.Bool.Decides.{nat_tests}
 use Rattle.std.proofs.lemmas.List.Elements.{filter_map-append}
 use Rattle.std.proofs.lemmas.List.Folds.{list_all-append}
 use Rattle.rl_base.specs.Order.{IsBelow}
 use Rattle.rl_base.specs.declared.stamp.Stamp.{Stamp}
-use Rattle.rl_base.proofs.Members.{In, in_prefix, in_suffix, in_split, any_false, false_any}
+use Rattle.rl_base.proofs.Members.{In, in_prefix, in_split, any_false, false_any}
 use Rattle.rl_base.proofs.Tests.{true_same, both, both_true, neither, or_false}
 use Rattle.rl_families.specs.Logs.{stamps_along, items_along}
 use Rattle.rl_families.proofs.Logs.{stamps_along-append, items_along-append}
-use Rattle.rl_families.proofs.Rising.{Rises, rises_from, from_rises, rises_append, rises_front, rises_back}
+use Rattle.rl_families.proofs.Rising.{Rises, rises_from, from_rises, rises_append, rises_front}
 use Rattle.rl_paxos.specs.Logs as bytes
 use Rattle.rl_txn.specs.declared.item.Item.{Item}
-use Rattle.rl_txn.specs.declared.write.Write.{Write}
-use Rattle.rl_txn.specs.declared.batch.Batch.{Batch}
 use Rattle.rl_value.specs.Tables.{Table}
 use Rattle.rl_nodes.specs.BadMessages.{Carried, is_wrong, write_fits, has_no_batch, has_other_worker, has_later_epoch, has_disorder, has_misfit}
 use Rattle.rl_nodes.specs.Batches.{batch_of, batches_of, are_batches, are_rising}

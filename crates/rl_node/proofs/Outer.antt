@@ -1,5 +1,6 @@
 -- From what a call of a node that answers calls does, to what any call does.
-use Rattle.std.proofs.Common.{◌≡◌, ℕ, true, refl, sym, ap, ◌∙◌, subst, Option, Some, None, Result, Ok, Err, IfOk, IfErr, inl}
+use Rattle.std.proofs.Common.{◌≡◌, ℕ, true, refl, sym, ap, ◌∙◌, subst, Option, Some, None, Result, Ok, Err, IsErrAnd, inl}
+use Rattle.std.proofs.lemmas.Result.{err_from_is_err_and}
 use Rattle.rl_nodes.specs.Answers.{Answer}
 use Rattle.rl_nodes.specs.Calls.{Standing, IsRefused}
 use Rattle.rl_nodes.specs.Nodes.{NodeState}
@@ -141,3 +142,17 @@ pub fails_still : (setup : Setup) (a : ℕ) (n : Node) (x : NodeState) → is_ru
     → (answer : Answer) (e : NodeError) → e ≡ Memory → Tries setup a n n x answer (Err e)
 fails_still setup a n x up s answer e memory =
     subst (λ e. HasNot setup a n n x answer e) (sym memory) (record { node = x; stands = s; up = up; keeps = inl refl; reason = tt })
+
+-- the same by an error that was handed on
+pub repeats_by : (setup : Setup) (due : ℕ → NodeState → Answer) (n : Node) (f : NodeError) (result : Result Out NodeError)
+    → Some f ≡ failed_in n.phase → IsErrAnd result (λ e. e ≡ f) → RefusesDue setup due n n result
+repeats_by setup due n f result some is =
+    let p = err_from_is_err_and result is in
+    subst (RefusesDue setup due n n) (sym p.1) (repeats_due setup due n p.0 (sym some ∙ ap Some (sym p.2)))
+
+-- and of memory
+pub fails_by : (setup : Setup) (a : ℕ) (n : Node) (x : NodeState) → is_running n ≡ true → Stands setup a n (well x)
+    → (answer : Answer) (result : Result Out NodeError) → IsErrAnd result (λ e. e ≡ Memory) → Tries setup a n n x answer result
+fails_by setup a n x up s answer result is =
+    let p = err_from_is_err_and result is in
+    subst (Tries setup a n n x answer) (sym p.1) (fails_still setup a n x up s answer p.0 p.2)

@@ -1,6 +1,5 @@
 -- A node that has just begun. No public contract cites it.
-use Rattle.std.specs.Prelude.{◌≡◌, ℕ, List, [], replicate, None}
-use Rattle.rl_families.specs.Streams.{log_at}
+use Rattle.std.specs.Prelude.{◌≡◌, ℕ, [], replicate, None}
 use Rattle.rl_replay.specs.Standing.{BeginsWithPlayed}
 use Rattle.rl_nodes.specs.Nodes.{opening_replica}
 use Rattle.rl_nodes.specs.Setups.{Setup}

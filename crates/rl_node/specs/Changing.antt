@@ -1,7 +1,7 @@
 -- A node with another part. No public contract cites it.
 use Rattle.rl_node.specs.declared.node.Node.{Node}
 use Rattle.rl_node.specs.declared.node.Phase.{Phase}
-use Rattle.rl_node.specs.declared.node.Phase.TheVariants.{Up, Down, Lost}
+use Rattle.rl_node.specs.declared.node.Phase.TheVariants.{Up}
 use Rattle.rl_node.specs.declared.part.Part.{Part}
 
 -- what is in a phase, with another part where it is up

@@ -10,7 +10,7 @@ use Rattle.rl_node.specs.Outs.{IsOut}
 use Rattle.rl_node.specs.Standing.{Stands, is_running}
 use Rattle.rl_node.specs.declared.node.Node.{Node}
 use Rattle.rl_node.specs.declared.node.Phase.{Phase}
-use Rattle.rl_node.specs.declared.node.Phase.TheVariants.{Up, Down, Lost}
+use Rattle.rl_node.specs.declared.node.Phase.TheVariants.{Up}
 use Rattle.rl_node.specs.declared.answer.Out.{Out}
 
 -- a node that answers calls

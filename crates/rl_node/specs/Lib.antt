@@ -8,5 +8,6 @@ pub mod Named
 pub mod Outs
 pub mod Sending
 pub mod SetupOf
+pub mod Showing
 pub mod Standing
 pub mod Wrong

@@ -1,5 +1,5 @@
 -- What the fields of a node stand for.
-use Rattle.std.specs.Prelude.{◌≡◌, ℕ, ◌-◌, ◌≤◌, ◌<◌, List, map, length, Bool, true, false, Option, Some, None, slice_get}
+use Rattle.std.specs.Prelude.{◌≡◌, ℕ, ◌-◌, ◌≤◌, List, map, length, Bool, true, false, Option, Some, None, slice_get}
 use Rattle.rl_election.specs.World.{State, Up, Down, Lost}
 use Rattle.rl_paxos.specs.Acceptors.{Acceptor}
 use Rattle.rl_tables.specs.Numbers.{sizes_of}
@@ -9,7 +9,7 @@ use Rattle.rl_worker.specs.Opening.{CoreFits, core_after}
 use Rattle.rl_worker.specs.Workers as worker
 use Rattle.rl_worker.specs.declared.worker.Worker.{Worker}
 use Rattle.rl_nodes.specs.Calls.{Standing}
-use Rattle.rl_nodes.specs.Nodes.{Lead, NodeState, Part, Follows, Stands as StandsFor, Leads, nothing_known, opening_replica}
+use Rattle.rl_nodes.specs.Nodes.{Lead, Part, Follows, Stands as StandsFor, Leads, nothing_known, opening_replica}
 use Rattle.rl_nodes.specs.Openings.{opening_leader}
 use Rattle.rl_nodes.specs.Setups.{Setup}
 use Rattle.rl_node.specs.Fits.{AcceptorFits, RunningFits, CandidateFits, LeadFits}

@@ -1,12 +1,11 @@
 //! What a node hands out.
 
-ghost use Rattle.std.specs.Prelude.{◌≡◌, ℕ, ◌≤◌, [], ◌∷◌, ◌++◌, map, None, Some, IfOk, OnOk};
+ghost use Rattle.std.specs.Prelude.{◌≡◌, ℕ, ◌≤◌, List, [], ◌∷◌, map, None, Some, IfOk, OnOk};
 ghost use Rattle.std.specs.List.{range_with_len};
 ghost use Rattle.rl_msg.specs.Parts.{head_of};
 ghost use Rattle.rl_msg.specs.Ranges.{MsgInRange};
-ghost use Rattle.rl_nodes.specs.Calls.{encoded};
 ghost use Rattle.rl_node.specs.Addressed.{addressed};
-ghost use Rattle.rl_node.specs.Outs.{seen_sends, IsSending};
+ghost use Rattle.rl_node.specs.Outs.{Adds, IsSending};
 
 use rl_base::list::{Bytes, Seq};
 use rl_base::memory::Memory;
@@ -45,7 +44,7 @@ pub struct Out {
 
 /// It sends some messages and tells nothing.
 pub fn sending(alloc: Global, sends: Sends) -> Out
-    ensures { result ≡ record { sends = sends; opened = None; denied = None; released = [] } }
+    ensures { (messages : List Msg) → Adds [] sends messages → IsSending messages result }
 {
     Out {
         sends,
@@ -170,7 +169,7 @@ fn addressed(m: Msg, to: u32) -> Msg
 /// Sends a message.
 pub fn send(alloc: Global, sends: &mut Sends, m: &Msg) -> Result<(), Memory>
     requires { MsgInRange m.now }
-    ensures { OnOk result (seen_sends sends.new ≡ seen_sends sends.old ++ encoded m.now ∷ []) }
+    ensures { OnOk result (Adds sends.old sends.new (m.now ∷ [])) }
 {
     let bytes = encode_msg(alloc, m)?;
     sends.push(Sent {
@@ -182,8 +181,7 @@ pub fn send(alloc: Global, sends: &mut Sends, m: &Msg) -> Result<(), Memory>
 /// Sends a message to each of nodes 1 to `nodes`.
 pub fn send_each(alloc: Global, sends: &mut Sends, m: Msg, nodes: u32) -> Result<(), Memory>
     requires { (to : ℕ) → 1 ≤ to → to ≤ nodes → MsgInRange (addressed m to) }
-    ensures { OnOk result (seen_sends sends.new
-        ≡ seen_sends sends.old ++ map encoded (map (addressed m) (range_with_len 1 nodes))) }
+    ensures { OnOk result (Adds sends.old sends.new (map (addressed m) (range_with_len 1 nodes))) }
 {
     let mut m = m;
     for before in 0..nodes {

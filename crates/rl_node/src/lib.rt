@@ -2,11 +2,13 @@
 #![tactic(auto)]
 
 pub mod answer;
+mod electing;
 pub mod node;
-
 mod part;
 mod running;
+mod sending;
 pub mod setup;
+mod viewing;
 
 pub use rl_nodes::node_error::NodeError;
 pub use rl_nodes::view::{NodeView, Role, State, StreamView, StreamViews};

@@ -1,5 +1,4 @@
-use Rattle.std.proofs.Common.{◌≡◌, List, [], replicate, length, refl, sym, ap, ◌∙◌}
-use Rattle.std.proofs.lemmas.List.{length-replicate}
+use Rattle.std.proofs.Common.{[], refl, ◌∙◌}
 use Rattle.rl_node.proofs.Beginnings.{replica_begins}
 use Rattle.rl_node.proofs.running.Running.new.Goals as goal
 
