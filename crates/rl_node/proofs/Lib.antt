@@ -2,7 +2,13 @@ pub mod Beginnings
 pub mod Changes
 pub mod Elections
 pub mod Items
+pub mod Keeps
+pub mod Leaders
 pub mod Logs
 pub mod Outer
+pub mod Proposals
+pub mod Ranges
 pub mod Sends
 pub mod Shown
+pub mod Streams
+pub mod Turns

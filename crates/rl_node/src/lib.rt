@@ -1,13 +1,19 @@
 //! One node: its acceptor, its replica, and its part as a candidate or a leader.
 #![tactic(auto)]
 
+mod acking;
 pub mod answer;
 mod electing;
+mod laws;
 pub mod node;
+mod opening;
 mod part;
+mod proposing;
+mod reading;
 mod running;
 mod sending;
 pub mod setup;
+mod stepping;
 mod viewing;
 
 pub use rl_nodes::node_error::NodeError;
