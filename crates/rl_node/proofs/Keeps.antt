@@ -1,13 +1,12 @@
 -- What a leader keeps of a stream stays true as its worker steps and as batches are proposed.
-use Rattle.std.proofs.Common.{◌≡◌, ◌≢◌, ◌⊎◌, ℕ, zero, suc, ◌+◌, ◌-◌, ◌*◌, ◌^◌, ◌<◌, ◌≤◌, List, [], ◌∷◌, ◌++◌, length, map, get_or, set, Bool, true, false, ◌&&◌, ◌==◌, nat_lt, if◌then◌else◌, is_some, Option, Some, None, IfSome, option_to_list, option_map, All, Contains, refl, sym, ap, ◌∙◌, subst, arith, inl, inr, append-nil, append_assoc, get_or-set_other, true≢false}
-use Rattle.std.specs.List.{list_all, list_any}
+use Rattle.std.proofs.Common.{◌≡◌, ◌≢◌, ◌⊎◌, ℕ, zero, suc, ◌+◌, ◌-◌, ◌*◌, ◌^◌, ◌<◌, ◌≤◌, List, [], ◌∷◌, ◌++◌, map, Bool, true, false, ◌&&◌, if◌then◌else◌, is_some, Option, Some, None, IfSome, option_to_list, option_map, All, Contains, refl, sym, ap, ◌∙◌, subst, arith, inl, inr, append-nil, append_assoc}
+use Rattle.std.specs.List.{list_all}
 use Rattle.std.proofs.lemmas.List.{map-append}
-use Rattle.std.proofs.lemmas.Bool.{cases_eq}
 use Rattle.std.proofs.lemmas.Bool.Decides.{eqb_tells}
 use Rattle.rl_base.specs.Order.{IsBelow}
 use Rattle.rl_base.specs.Stamps.{packed}
 use Rattle.rl_base.specs.declared.stamp.Stamp.{Stamp}
-use Rattle.rl_base.proofs.Members.{In, in_contains, contains_in, in_prefix, in_suffix, in_split, in_map, map_in, all_in}
+use Rattle.rl_base.proofs.Members.{In, in_contains, contains_in, in_prefix, in_suffix, in_split, map_in, all_in}
 use Rattle.rl_families.specs.Logs.{stamps_in_batch, items_in_batch, stamps_along, items_along, IsRising}
 use Rattle.rl_families.proofs.Logs.{stamps_along-append, items_along-append}
 use Rattle.rl_families.proofs.Rising.{Rises, rises_from, from_rises, rises_append}
@@ -21,12 +20,12 @@ use Rattle.rl_worker.specs.Items.{CoreItem}
 use Rattle.rl_worker.specs.Laws.{AllUnder, IsFalling, stamps_by}
 use Rattle.rl_worker.specs.OneTurn.{SeenInRange}
 use Rattle.rl_worker.specs.Opening.{OpenLeader, setting_of, item_seen}
-use Rattle.rl_worker.specs.Workers.{decided_item, either, newly_decided, stamp_made}
+use Rattle.rl_worker.specs.Workers.{decided_item, either, stamp_made}
 use Rattle.rl_worker.specs.declared.worker.Worker.{Worker}
-use Rattle.rl_nodes.specs.Batches.{batch_of, batches_of, are_batches, END_SEQ, idle_mark}
+use Rattle.rl_nodes.specs.Batches.{batch_of, batches_of, are_batches, END_SEQ}
 use Rattle.rl_nodes.specs.BadMessages.{write_fits}
 use Rattle.rl_node.specs.Keeping.{stamps_with, IsEarly, HasBegun, unproposed, IsMade, KeepsStream}
-use Rattle.rl_node.proofs.Logs.{IsRight, stamps_of, items_of, stamps_of-append, items_of-append}
+use Rattle.rl_node.proofs.Logs.{IsRight, stamps_of, items_of}
 use Rattle.rl_node.proofs.Streams.{batches_of-more}
 
 pub all_from : {A : Type 0} (P : A → Type 0) (xs : List A) → ((x : A) → In x xs → P x) → All P xs

@@ -1,5 +1,5 @@
 -- A leader one of whose streams changes.
-use Rattle.std.proofs.Common.{◌≡◌, ◌≢◌, ℕ, zero, suc, ◌+◌, ◌-◌, ◌^◌, ◌<◌, ◌≤◌, max, List, [], ◌∷◌, ◌++◌, length, map, take, get_or, set, Bool, true, false, cond, nat_le, if◌then◌else◌, refl, sym, ap, ◌∙◌, subst, arith, inl, inr, length-set, length-append, get_or-set_same, get_or-set_other}
+use Rattle.std.proofs.Common.{◌≡◌, ◌≢◌, ℕ, zero, suc, ◌+◌, ◌-◌, ◌<◌, ◌≤◌, max, List, [], ◌∷◌, ◌++◌, length, take, get_or, set, Bool, true, false, cond, nat_le, if◌then◌else◌, refl, sym, ap, ◌∙◌, subst, arith, inl, inr, length-set, length-append, get_or-set_same, get_or-set_other}
 use Rattle.std.specs.Prelude.{slice_set, slice_index_or, slice_index}
 use Rattle.std.proofs.lemmas.Bool.{cases_eq}
 use Rattle.std.proofs.lemmas.Bool.Decides.{nat_tests}
@@ -8,16 +8,15 @@ use Rattle.std.proofs.lemmas.List.Sums.{sum_by-cons}
 use Rattle.rl_base.specs.declared.limit.TheConstants.{SLOTS}
 use Rattle.rl_election.specs.World.{no_stream}
 use Rattle.rl_families.specs.Streams.{log_at}
-use Rattle.rl_msg.specs.Ranges.{LogInRange, EmbeddedBatchInRange}
-use Rattle.rl_paxos.specs.Leaders.{Leading, proposed, with_ack, acknowledged_len, acked_count, IsAcknowledged}
+use Rattle.rl_msg.specs.Ranges.{EmbeddedBatchInRange}
+use Rattle.rl_paxos.specs.Leaders.{Leading, proposed, with_ack, acked_count, IsAcknowledged}
 use Rattle.rl_paxos.specs.Logs as bytes
 use Rattle.rl_paxos.specs.Quorums.{is_node}
 use Rattle.rl_txn.specs.declared.batch.Batch.{Batch}
-use Rattle.rl_value.specs.Tables.{Table}
 use Rattle.rl_nodes.specs.Batches.{batches_of, are_batches}
 use Rattle.rl_nodes.specs.Nodes.{len_acknowledged, acknowledged_log}
 use Rattle.rl_nodes.specs.Setups.{Setup}
-use Rattle.rl_node.specs.Fits.{IsStream, IsEpoch, LogFits, LeadingFits, LeadFits}
+use Rattle.rl_node.specs.Fits.{IsStream, IsEpoch, LeadingFits, LeadFits}
 use Rattle.rl_node.specs.declared.part.Lead as leads
 use Rattle.rl_node.proofs.Keeps.{all_append}
 use Rattle.rl_node.proofs.Logs.{IsRight, is_right, right_is}

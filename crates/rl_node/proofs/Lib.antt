@@ -1,6 +1,7 @@
 pub mod Beginnings
 pub mod Changes
 pub mod Elections
+pub mod Flushes
 pub mod Items
 pub mod Keeps
 pub mod Leaders

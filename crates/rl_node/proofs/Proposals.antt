@@ -1,12 +1,12 @@
 -- A leader proposes what is pending of a worker.
-use Rattle.std.proofs.Common.{◌≡◌, ◌≢◌, ℕ, ◌+◌, ◌-◌, ◌^◌, ◌<◌, ◌≤◌, List, [], ◌∷◌, ◌++◌, length, map, get_or, set, Option, Some, None, Ok, option_to_list, All, refl, sym, ap, ◌∙◌, subst, arith, inl, inr, append_assoc, length-set, get_or-set_same, get_or-set_other}
+use Rattle.std.proofs.Common.{◌≡◌, ◌≢◌, ℕ, ◌-◌, ◌<◌, ◌≤◌, List, [], ◌∷◌, ◌++◌, length, Some, Ok, option_to_list, All, sym, ap, ◌∙◌, subst, arith, inl, inr, append_assoc, length-set, get_or-set_same, get_or-set_other}
 use Rattle.std.specs.Prelude.{slice_get, slice_set, slice_index_or}
 use Rattle.std.specs.Result.{result_ok}
 use Rattle.std.proofs.lemmas.Bool.{cases_eq}
 use Rattle.std.proofs.lemmas.List.{map-append}
-use Rattle.rl_base.specs.declared.limit.TheConstants.{SLOTS, WORKERS}
+use Rattle.rl_base.specs.declared.limit.TheConstants.{SLOTS}
 use Rattle.rl_base.specs.declared.stamp.Stamp.{Stamp}
-use Rattle.rl_base.proofs.Members.{In, map_in, all_in}
+use Rattle.rl_base.proofs.Members.{map_in, all_in}
 use Rattle.rl_batch.specs.declared.item.TheConstants.{BATCH_ITEMS}
 use Rattle.rl_batch.specs.Ranges.{ItemsInRange}
 use Rattle.rl_election.specs.World.{no_stream}
@@ -25,13 +25,13 @@ use Rattle.rl_worker.specs.declared.worker.Worker.{Worker}
 use Rattle.rl_nodes.specs.Batches.{batch_of, batches_of}
 use Rattle.rl_nodes.specs.Openings.{opening_leader}
 use Rattle.rl_nodes.specs.Setups.{Setup, SetupFits}
-use Rattle.rl_node.specs.Fits.{IsStream, LeadingFits, LeadFits}
-use Rattle.rl_node.specs.Keeping.{unproposed, stamps_with, KeepsStream}
+use Rattle.rl_node.specs.Fits.{IsStream, LeadFits}
+use Rattle.rl_node.specs.Keeping.{KeepsStream}
 use Rattle.rl_node.specs.Leading.{stream_of, HasStreams}
 use Rattle.rl_node.specs.Proposing.{HasProposed}
 use Rattle.rl_batch.specs.Encoding.{batch_bytes}
 use Rattle.rl_batch.specs.Reading.{read_batch}
-use Rattle.rl_node.specs.Standing.{IsWorkerOf, AreWorksOf, log_of, pending_in}
+use Rattle.rl_node.specs.Standing.{AreWorksOf, log_of, pending_in}
 use Rattle.rl_node.specs.declared.part.Lead as leads
 use Rattle.rl_node.specs.declared.part.Works.{Works}
 use Rattle.rl_node.proofs.Keeps.{all_front, stamp_list, right_more, keeps_items}

@@ -1,10 +1,9 @@
 -- What a leader proposes is in the range of batches, and fits the tables.
-use Rattle.std.proofs.Common.{◌≡◌, ℕ, zero, suc, ◌+◌, ◌-◌, ◌^◌, ◌<◌, ◌≤◌, List, [], ◌∷◌, ◌++◌, length, map, get_or, Bool, true, false, Option, Some, None, IsSomeAnd, IfSome, All, AllPairs, refl, sym, ap, ◌∙◌, subst, arith, inl, inr}
+use Rattle.std.proofs.Common.{◌≡◌, ℕ, zero, suc, ◌-◌, ◌^◌, ◌<◌, ◌≤◌, List, [], ◌∷◌, length, get_or, true, Option, Some, None, IsSomeAnd, IfSome, All, AllPairs, refl, sym, ap, ◌∙◌, arith, inl, inr}
 use Rattle.std.specs.Prelude.{slice_get}
 use Rattle.std.specs.Option.{option_map_or, option_and_then}
 use Rattle.std.specs.List.{list_all}
-use Rattle.rl_base.specs.declared.limit.TheConstants.{WORKERS, TABLES, RECORDS, REQUESTS, OPS}
-use Rattle.rl_base.specs.declared.stamp.Stamp.{Stamp}
+use Rattle.rl_base.specs.declared.limit.TheConstants.{WORKERS, RECORDS, OPS}
 use Rattle.rl_base.proofs.Members.{In, in_map, all_in}
 use Rattle.rl_base.proofs.Tests.{both_true}
 use Rattle.rl_value.specs.Tables.{Table, IsTable, IsSchema, size_of, columns_of}
@@ -13,7 +12,7 @@ use Rattle.rl_txn.specs.declared.op.Op.{Op}
 use Rattle.rl_txn.specs.declared.write.End.{End}
 use Rattle.rl_txn.specs.declared.write.End.TheVariants.{Done, Declined}
 use Rattle.rl_txn.specs.declared.write.Write.{Write}
-use Rattle.rl_txn.specs.Fits.{TxnFits, ListsFit, AnswerFits, EndFits, WritesIfDone, WriteFits, RowHas, ItemFits}
+use Rattle.rl_txn.specs.Fits.{TxnFits, AnswerFits, EndFits, WritesIfDone, WriteFits, RowHas}
 use Rattle.rl_txn.specs.Serial.{numbered, request_of}
 use Rattle.rl_batch.specs.declared.item.TheConstants.{BATCH_ITEMS}
 use Rattle.rl_batch.specs.Ranges.{ItemsInRange, ItemInRange, WriteInRange, EndInRange, most_writes}

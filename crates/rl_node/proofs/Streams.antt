@@ -1,17 +1,14 @@
 -- Logs of bytes that grow, and families that follow them.
-use Rattle.std.proofs.Common.{◌≡◌, ℕ, zero, suc, ◌+◌, ◌-◌, ◌<◌, ◌≤◌, List, [], ◌∷◌, ◌++◌, length, take, drop, get_or, set, Bool, true, false, cond, ◌&&◌, is_some, Option, Some, None, refl, sym, ap, ◌∙◌, subst, arith, inl, inr, append-nil, append_assoc, length-set, get_or-set_same}
-use Rattle.std.specs.Prelude.{slice_get, slice_set, slice_index_or}
-use Rattle.std.specs.List.{list_all, cons_option}
-use Rattle.std.specs.Option.{option_and_then}
+use Rattle.std.proofs.Common.{◌≡◌, ℕ, zero, suc, ◌+◌, ◌-◌, ◌<◌, ◌≤◌, List, [], ◌∷◌, ◌++◌, length, take, drop, get_or, set, Bool, true, cond, is_some, Some, None, refl, sym, ap, ◌∙◌, subst, arith, inl, append-nil, length-set, get_or-set_same}
+use Rattle.std.specs.Prelude.{slice_get}
+use Rattle.std.specs.List.{cons_option}
 use Rattle.std.proofs.lemmas.List.{take_more, take-append-drop}
 use Rattle.std.proofs.lemmas.Option.{get_or_from_slice_get, slice_get_within}
-use Rattle.rl_base.specs.Order.{is_below, IsBelow}
+use Rattle.rl_base.specs.Order.{IsBelow}
 use Rattle.rl_base.specs.declared.stamp.Stamp.{Stamp}
-use Rattle.rl_base.proofs.Members.{In}
 use Rattle.rl_base.proofs.OrderLemmas.{is_below_from}
 use Rattle.rl_base.proofs.Tests.{both}
 use Rattle.rl_cut.specs.Refusals.{order_refusal, extend_refusal}
-use Rattle.rl_cut.specs.declared.family.ExtendError.{ExtendError}
 use Rattle.rl_cut.specs.declared.family.ExtendError.TheVariants.{Order}
 use Rattle.rl_families.specs.Logs.{stamps_in_batch, stamps_along, IsRising, first_stamp, last_stamp}
 use Rattle.rl_families.specs.Streams.{log_at}

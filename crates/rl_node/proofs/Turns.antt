@@ -1,32 +1,29 @@
 -- What a turn of one worker of the code does to the core, to the records and workers, and to what the leader keeps.
-use Rattle.std.proofs.Common.{◌≡◌, ◌≢◌, ◌⊎◌, ℕ, zero, suc, ◌+◌, ◌-◌, ◌*◌, ◌^◌, ◌<◌, ◌≤◌, List, [], ◌∷◌, ◌++◌, length, map, get_or, set, Bool, true, false, ◌&&◌, ◌==◌, nat_lt, if◌then◌else◌, is_some, Option, Some, None, IfSome, Result, Ok, Err, IfOk, option_to_list, option_map, All, Contains, refl, sym, ap, ◌∙◌, subst, arith, inl, inr, append-nil, length-set, get_or-set_same, get_or-set_other}
+use Rattle.std.proofs.Common.{◌≡◌, ◌≢◌, ℕ, zero, suc, ◌+◌, ◌-◌, ◌*◌, ◌^◌, ◌<◌, ◌≤◌, List, [], ◌∷◌, ◌++◌, length, get_or, set, Bool, true, false, ◌&&◌, nat_lt, if◌then◌else◌, Option, Some, None, IfSome, Result, Ok, Err, IfOk, option_to_list, option_map, All, Contains, refl, sym, ap, ◌∙◌, subst, arith, inl, inr, length-set, get_or-set_same, get_or-set_other}
 use Rattle.std.specs.Prelude.{slice_get, slice_set, slice_index_or}
 use Rattle.std.proofs.lemmas.Bool.{cases_eq}
-use Rattle.std.proofs.lemmas.Option.{get_or_from_slice_get, slice_get_within}
-use Rattle.rl_base.specs.declared.stamp.Stamp.{Stamp}
-use Rattle.rl_base.proofs.Members.{In, in_contains, in_map, all_in}
+use Rattle.rl_base.proofs.Members.{In, in_map, all_in}
 use Rattle.rl_base.proofs.Tests.{lt_true, both_true}
 use Rattle.rl_election.specs.World.{no_stream}
 use Rattle.rl_families.specs.Logs.{stamps_along}
-use Rattle.rl_txn.specs.declared.item.Item.{Item}
 use Rattle.rl_txn.specs.declared.op.Op.{Op}
 use Rattle.rl_value.specs.Tables.{Table}
-use Rattle.rl_worker.specs.Acts.{Core, Turn, Step, Idle, phase_of, resting, is_done, may, micro, settle, begin, step, turn, after_turns, opening_core}
+use Rattle.rl_worker.specs.Acts.{Core, Turn, Step, phase_of, is_done, may, micro, settle, begin, step, turn, after_turns, opening_core}
 use Rattle.rl_worker.specs.Items.{CoreItem, insert_by_stamp}
 use Rattle.rl_worker.specs.Laws.{IsFalling, stamps_by, StampsRise}
 use Rattle.rl_worker.specs.OneTurn.{SeenInRange, ItemsStayInRange, StepsTellNews, TellsNews, newly_ended, newly_refused}
 use Rattle.rl_worker.specs.Told.{refused}
 use Rattle.rl_base.specs.declared.memory.Memory.{Memory}
-use Rattle.rl_node.specs.Stepping.{HasEnded, HasStepped, core_stepped}
-use Rattle.rl_worker.specs.Opening.{OpenLeader, CoreFits, core_after, setting_of, item_seen, items_seen, opening_recs, at_rest}
-use Rattle.rl_worker.specs.Phases.{Phase, Rest, Setting}
+use Rattle.rl_node.specs.Stepping.{HasStepped}
+use Rattle.rl_worker.specs.Opening.{OpenLeader, core_after, setting_of, item_seen, items_seen, opening_recs, at_rest}
+use Rattle.rl_worker.specs.Phases.{Rest, Setting}
 use Rattle.rl_worker.specs.Workers as worker
 use Rattle.rl_worker.specs.Workers.{Steps, WorkerFits, RecordsFit, with_item, stamp_made, IsItemOf, number_of, epoch_of, decided_item, either, newly_decided, phase_of_worker, stamp_next, act_of_step}
 use Rattle.rl_worker.specs.declared.act.Moved.{Moved}
 use Rattle.rl_worker.specs.declared.worker.Worker.{Worker}
-use Rattle.rl_nodes.specs.Batches.{batches_of, END_SEQ}
+use Rattle.rl_nodes.specs.Batches.{batches_of}
 use Rattle.rl_nodes.specs.Openings.{opening_leader}
-use Rattle.rl_nodes.specs.Setups.{Setup, SetupFits}
+use Rattle.rl_nodes.specs.Setups.{Setup}
 use Rattle.rl_node.specs.Fits.{IsStream}
 use Rattle.rl_node.specs.Keeping.{KeepsStream}
 use Rattle.rl_node.specs.Standing.{IsWorkerOf, AreWorksOf, log_of, pending_in}

@@ -1,6 +1,5 @@
 -- A leader that has counted an Ack, and what of it is not yet up to that. No public contract cites it.
-use Rattle.std.specs.Prelude.{◌≡◌, ℕ, ◌-◌, ◌≤◌, length, take, slice_index_or}
-use Rattle.rl_election.specs.World.{no_stream}
+use Rattle.std.specs.Prelude.{◌≡◌, ℕ, ◌≤◌, length, take}
 use Rattle.rl_families.specs.Streams.{log_at}
 use Rattle.rl_nodes.specs.Batches.{batches_of}
 use Rattle.rl_nodes.specs.Nodes.{len_acknowledged, acknowledged_log}

@@ -1,5 +1,5 @@
 -- What a leader does with an Ack, step by step. No public contract cites it.
-use Rattle.std.specs.Prelude.{◌≡◌, ℕ, ◌-◌, Result, List, if◌then◌else◌, slice_set, Some}
+use Rattle.std.specs.Prelude.{◌≡◌, ℕ, ◌-◌, List, if◌then◌else◌, slice_set}
 use Rattle.rl_msg.specs.declared.msg.Msg.{Msg}
 use Rattle.rl_paxos.specs.Leaders.{with_ack}
 use Rattle.rl_txn.specs.declared.item.Item.{Item}

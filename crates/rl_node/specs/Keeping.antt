@@ -1,5 +1,5 @@
 -- What a leader keeps of each of its streams, before it opens and after.
-use Rattle.std.specs.Prelude.{◌≡◌, ◌⊎◌, ℕ, ◌-◌, ◌<◌, List, [], ◌++◌, map, length, true, option_to_list, slice_index_or, All, Contains}
+use Rattle.std.specs.Prelude.{◌≡◌, ◌⊎◌, ℕ, ◌<◌, List, [], ◌++◌, map, true, option_to_list, All, Contains}
 use Rattle.rl_base.specs.declared.stamp.Stamp.{Stamp}
 use Rattle.rl_base.specs.Stamps.{packed}
 use Rattle.rl_families.specs.Logs.{stamps_along, items_along, IsRising}

@@ -1,10 +1,10 @@
 -- What a leader of a node does of what is due. No public contract cites it.
-use Rattle.std.specs.Prelude.{◌≡◌, ℕ, Result, Ok, Err}
+use Rattle.std.specs.Prelude.{◌≡◌, Result, Ok, Err}
 use Rattle.rl_nodes.specs.Answers.{Did, Answer}
 use Rattle.rl_nodes.specs.Nodes.{NodeState, Part}
 use Rattle.rl_nodes.specs.Setups.{Setup}
 use Rattle.rl_nodes.specs.declared.node_error.NodeError.{NodeError}
-use Rattle.rl_nodes.specs.declared.node_error.NodeError.TheVariants.{BadMessage, StreamFull, NoEpoch, Memory}
+use Rattle.rl_nodes.specs.declared.node_error.NodeError.TheVariants.{StreamFull, Memory}
 use Rattle.rl_node.specs.Outs.{IsOut}
 use Rattle.rl_node.specs.Standing.{StandsLead}
 use Rattle.rl_node.specs.declared.answer.Out.{Out}

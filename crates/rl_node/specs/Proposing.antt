@@ -2,7 +2,7 @@
 use Rattle.std.specs.Prelude.{◌≡◌, ℕ, ◌-◌, List, [], length, slice_set}
 use Rattle.rl_base.specs.declared.limit.TheConstants.{SLOTS}
 use Rattle.rl_nodes.specs.declared.node_error.NodeError.{NodeError}
-use Rattle.rl_nodes.specs.declared.node_error.NodeError.TheVariants.{BadMessage, StreamFull, NoEpoch, Memory}
+use Rattle.rl_nodes.specs.declared.node_error.NodeError.TheVariants.{StreamFull, Memory}
 use Rattle.rl_paxos.specs.Leaders.{Leading, proposed}
 use Rattle.rl_node.specs.Leading.{stream_of}
 use Rattle.rl_node.specs.declared.part.Lead.{Lead}

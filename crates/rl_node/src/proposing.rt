@@ -1,6 +1,6 @@
 //! What a leader proposes.
 
-ghost use Rattle.std.specs.Prelude.{◌≡◌, ℕ, ◌-◌, ◌≤◌, ◌<◌, ◌++◌, [], length, map, slice_set, slice_index_or, Ok, IfOk, OnOk, OnErr, IfErr};
+ghost use Rattle.std.specs.Prelude.{◌≡◌, ◌⊎◌, true, false, is_some, ℕ, ◌-◌, ◌≤◌, ◌<◌, ◌++◌, [], length, map, slice_set, slice_index_or, Ok, IfOk, OnOk, OnErr, IfErr};
 ghost use Rattle.rl_base.specs.declared.limit.TheConstants.{SLOTS, NODES};
 ghost use Rattle.rl_batch.specs.Encoding.{batch_bytes};
 ghost use Rattle.rl_batch.specs.Ranges.{BatchInRange};
@@ -73,6 +73,38 @@ impl Lead {
             stream,
         };
         propose_at(alloc, &mut self.streams, from, bytes, setup.nodes)
+    }
+
+    /// Proposes the pending items of a worker, where there are any and the leader has opened.
+    pub(crate) fn flush(
+        &mut self,
+        alloc: Global,
+        id: u32,
+        setup: &Setup,
+        worker: u32,
+    ) -> Result<Out, NodeError>
+        requires setup { SetupFits (setup_of setup.now) }
+        requires first { 1 ≤ id }
+        requires last { id ≤ (setup_of setup.now).nodes }
+        requires stands { (x : Part) × StandsLead (setup_of setup.now) self.old x }
+        requires worker { IsStream (setup_of setup.now) worker }
+        ensures { let setup = setup_of setup.now in
+            LeadTriesDue setup (λ x. flushes setup id x worker) self.old self.new result }
+    {
+        if !self.has_pending(worker) {
+            return Ok(sending(alloc, Sends::new(alloc)));
+        }
+        self.propose_pending(alloc, id, setup, worker)
+    }
+
+    /// Whether it has opened and items of a worker are pending.
+    fn has_pending(&self, worker: u32) -> bool
+        requires first { 1 ≤ worker }
+        requires last { worker ≤ length self.now.pending.items }
+        ensures some { result ≡ true → (is_some self.now.works ≡ true) × (1 ≤ length (pending_in self.now worker)) }
+        ensures none { result ≡ false → (is_some self.now.works ≡ false) ⊎ (pending_in self.now worker ≡ []) }
+    {
+        self.works.is_some() && self.pending[worker as usize - 1].len() > 0
     }
 
     /// Proposes the pending items of a worker as one batch.

@@ -1,6 +1,4 @@
-use Rattle.std.proofs.Common.{refl}
 use Rattle.rl_node.proofs.Leaders.{acknowledged_grows}
-use Rattle.rl_node.proofs.Turns.{works_step}
 use Rattle.rl_node.proofs.acking.count.Goals as goal
 
 pub returns-clause-grows : goal.returns-clause-grows

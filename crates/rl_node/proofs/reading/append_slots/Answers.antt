@@ -1,9 +1,6 @@
 use Rattle.std.proofs.Common.{◌≡◌, ◌-◌, ◌+◌, ◌≤◌, ◌++◌, ◌∷◌, [], length, take, ap, sym, ◌∙◌, arith}
 use Rattle.std.specs.Prelude.{slice_set}
 use Rattle.rl_nodes.specs.Batches.{batches_of}
-use Rattle.rl_node.proofs.Keeps.{keeps_step}
-use Rattle.rl_node.proofs.Leaders.{fits_with}
-use Rattle.rl_node.proofs.Ranges.{items_in_range}
 use Rattle.rl_node.proofs.Streams.{batch_rises, batch_goes_on, encodes_at, front_more, family_more, family_there, family_length}
 use Rattle.rl_node.proofs.reading.append_slots.Goals as goal
 

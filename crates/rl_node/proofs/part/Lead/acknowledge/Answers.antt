@@ -1,8 +1,7 @@
 use Rattle.std.proofs.Common.{◌∙◌, ap}
 use Rattle.rl_paxos.specs.Leaders.{Leading}
-use Rattle.rl_node.specs.Leading.{stream_of}
 use Rattle.rl_node.specs.SetupOf.{setup_of}
-use Rattle.rl_node.proofs.Leaders.{behind_rises, behind_encodes, behind_within, behind_begins, behind_fits, counted_fits}
+use Rattle.rl_node.proofs.Leaders.{behind_rises, behind_encodes}
 use Rattle.rl_node.proofs.part.Lead.acknowledge.Goals as goal
 
 pub append_slots-requires-clause-rising : goal.append_slots-requires-clause-rising
