@@ -12,7 +12,7 @@ use Rattle.rl_txn.specs.declared.batch.Batch.{Batch}
 use Rattle.rl_value.specs.Tables.{Table}
 use Rattle.rl_nodes.specs.BadMessages.{is_wrong}
 use Rattle.rl_nodes.specs.Batches.{batches_of}
-use Rattle.rl_nodes.specs.Nodes.{acknowledged_log}
+use Rattle.rl_nodes.specs.Nodes.{len_acknowledged, acknowledged_log}
 use Rattle.rl_nodes.specs.Setups.{Setup}
 use Rattle.rl_node.specs.declared.part.Lead.{Lead}
 use Rattle.rl_node.specs.declared.running.Running.{Running}
@@ -74,6 +74,7 @@ pub record LeadingFits (setup : Setup) (e s : ℕ) (x : Leading) : Type 0 where
   pub nodes : length x.acked ≡ setup.nodes
   pub some : 1 ≤ x.initial_len
   pub began : x.initial_len ≤ length x.log
+  pub within : len_acknowledged x ≤ length x.log
   pub log : LogFits setup.program.tables s e x.log
 
 -- a leader: its streams, and what a second quorum has acked of each

@@ -1,7 +1,8 @@
 -- What the fields of a node stand for.
-use Rattle.std.specs.Prelude.{◌≡◌, ℕ, ◌-◌, ◌≤◌, List, map, length, Bool, true, false, Option, Some, None, slice_get}
-use Rattle.rl_election.specs.World.{State, Up, Down, Lost}
+use Rattle.std.specs.Prelude.{◌≡◌, ℕ, ◌-◌, ◌≤◌, ◌<◌, List, [], map, length, Bool, true, false, Option, Some, None, slice_get, slice_index_or}
+use Rattle.rl_election.specs.World.{State, Up, Down, Lost, no_stream}
 use Rattle.rl_paxos.specs.Acceptors.{Acceptor}
+use Rattle.rl_paxos.specs.Logs.{Log}
 use Rattle.rl_tables.specs.Numbers.{sizes_of}
 use Rattle.rl_txn.specs.declared.item.Item.{Item}
 use Rattle.rl_worker.specs.Acts.{Core, Turn}
@@ -12,7 +13,8 @@ use Rattle.rl_nodes.specs.Calls.{Standing}
 use Rattle.rl_nodes.specs.Nodes.{Lead, Part, Follows, Stands as StandsFor, Leads, nothing_known, opening_replica}
 use Rattle.rl_nodes.specs.Openings.{opening_leader}
 use Rattle.rl_nodes.specs.Setups.{Setup}
-use Rattle.rl_node.specs.Fits.{AcceptorFits, RunningFits, CandidateFits, LeadFits}
+use Rattle.rl_node.specs.Fits.{IsStream, AcceptorFits, RunningFits, CandidateFits, LeadFits}
+use Rattle.rl_node.specs.Keeping.{HasBegun, KeepsStream}
 use Rattle.rl_node.specs.declared.node.Node.{Node}
 use Rattle.rl_node.specs.declared.node.Phase.{Phase}
 use Rattle.rl_node.specs.declared.node.Phase.TheVariants as phase
@@ -31,23 +33,41 @@ pub record IsWorkerOf (setup : Setup) (e w : ℕ) (works : Works) (core : Core) 
   pub fits : worker.WorkerFits setup.program.tables setup.program.lists x
   pub stands : worker.Stands setup.program.tables x works.words core
 
+-- the log of a stream of a leader, and the pending items of a worker
+abbrev pub log_of : leads.Lead → (s : ℕ) → Log
+log_of l s = (slice_index_or l.streams.items (s - 1) no_stream).log
+
+abbrev pub pending_in : leads.Lead → (w : ℕ) → List Item
+pending_in l w = slice_index_or l.pending.items (w - 1) []
+
+-- a leader has not opened: on each stream its epoch has begun, and nothing is pending
+pub record HasNotOpened (setup : Setup) (l : leads.Lead) : Type 0 where
+  pub begun : (s : ℕ) → IsStream setup s → HasBegun l.epoch (log_of l s)
+  pub pending : (s : ℕ) → IsStream setup s → pending_in l s ≡ []
+
 -- the records and workers of the code are those of a core that opened with some items and made some turns since
-pub record AreWorksOf (setup : Setup) (e : ℕ) (works : Works) (core : Core) : Type 0 where
+pub record AreWorksOf (setup : Setup) (l : leads.Lead) (works : Works) (core : Core) : Type 0 where
   pub layout : works.layout ≡ sizes_of setup.program.tables
   pub records : worker.RecordsFit setup.program.tables works.words.records.items
   pub count : length works.workers.items ≡ setup.workers
   pub each : (w : ℕ) (x : Worker) → 1 ≤ w → slice_get works.workers.items (w - 1) ≡ Some x
-      → IsWorkerOf setup e w works core x
+      → IsWorkerOf setup l.epoch w works core x
   pub items : List Item
   pub turns : List Turn
-  pub opens : CoreFits (opening_leader setup.program e items)
-  pub after : core ≡ core_after (opening_leader setup.program e items) turns
+  pub opens : CoreFits (opening_leader setup.program l.epoch items)
+  pub after : core ≡ core_after (opening_leader setup.program l.epoch items) turns
+  pub keeps : (w : ℕ) (x : Worker) → 1 ≤ w → slice_get works.workers.items (w - 1) ≡ Some x
+      → KeepsStream (opening_leader setup.program l.epoch items) w (log_of l w) (pending_in l w) x core
+
+-- fewer items are pending of each worker than make a batch
+abbrev pub HasFew : Setup → leads.Lead → Type 0
+HasFew setup l = (w : ℕ) → IsStream setup w → length (pending_in l w) < setup.batch
 
 -- there are records and workers once there is a core
-abbrev pub HasWorksOf : Setup → (e : ℕ) → Option Works → Option Core → Type 0
-HasWorksOf setup e None None = Unit {0}
-HasWorksOf setup e (Some works) (Some core) = AreWorksOf setup e works core
-HasWorksOf setup e works core = ⊥
+abbrev pub HasWorksOf : Setup → leads.Lead → Option Works → Option Core → Type 0
+HasWorksOf setup l None None = HasNotOpened setup l
+HasWorksOf setup l (Some works) (Some core) = AreWorksOf setup l works core × HasFew setup l
+HasWorksOf setup l works core = ⊥
 
 -- ---- parts ----
 
@@ -59,7 +79,7 @@ lead_with l core = record { epoch = l.epoch; streams = l.streams.items; core = c
 pub record StandsLead (setup : Setup) (l : leads.Lead) (x : Part) : Type 0 where
   pub core : Option Core
   pub is : x ≡ Leads (lead_with l core)
-  pub works : HasWorksOf setup l.epoch l.works core
+  pub works : HasWorksOf setup l l.works core
   pub fits : LeadFits setup l
 
 -- a part stands for a follower, a candidate or a leader

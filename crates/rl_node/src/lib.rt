@@ -2,13 +2,19 @@
 #![tactic(auto)]
 
 mod accepting;
+mod acking;
 pub mod answer;
 mod electing;
+mod laws;
 pub mod node;
+mod opening;
 mod part;
+mod proposing;
+mod reading;
 mod running;
 mod sending;
 pub mod setup;
+mod stepping;
 mod viewing;
 
 pub use rl_nodes::node_error::NodeError;

@@ -1,0 +1,36 @@
+use Rattle.std.proofs.Common.{◌≡◌, ◌-◌, ◌+◌, ◌≤◌, ◌++◌, ◌∷◌, [], length, take, ap, sym, ◌∙◌, arith}
+use Rattle.std.specs.Prelude.{slice_set}
+use Rattle.rl_nodes.specs.Batches.{batches_of}
+use Rattle.rl_node.proofs.Streams.{batch_rises, batch_goes_on, encodes_at, front_more, family_more, family_there, family_length}
+use Rattle.rl_node.proofs.reading.append_slots.Goals as goal
+
+pub read-requires : goal.read-requires
+read-requires c = encodes_at c.args.log.now c.loop-slot.slot c.get.result.now c.requires.batches c.get.ensures
+
+pub append-requires-clause-rising : goal.append-requires-clause-rising
+append-requires-clause-rising c =
+    batch_rises c.args.log.now c.loop-slot.slot c.get.result.now c.in_ok-batch.batch c.requires.rising c.get.ensures c.in_ok-batch.ensures
+
+pub append-requires-clause-free : goal.append-requires-clause-free
+append-requires-clause-free c =
+    batch_goes_on c.args.log.now c.loop-slot.slot c.get.result.now c.in_ok-batch.batch c.requires.rising c.get.ensures c.in_ok-batch.ensures
+    c.loop-slot.family c.args.stream c.loop-slot.invariant.there
+
+pub loop-slot-preserved : goal.loop-slot-preserved
+loop-slot-preserved c =
+    let first = c.args.family.now in
+    let before = c.loop-slot.family in
+    let after = c.append.new.family in
+    let s = c.args.stream in
+    let old = batches_of (take c.loop-slot.slot c.args.log.now) in
+    let new = batches_of (take (c.loop-slot.slot + 1) c.args.log.now) in
+    let more = front_more c.args.log.now c.loop-slot.slot c.get.result.now c.in_ok-batch.batch c.requires.rising c.get.ensures c.in_ok-batch.ensures in
+    let low : 1 ≤ s = c.requires.first in
+    let high : s ≤ length before = (let streams = c.loop-slot.invariant.streams in omega (arith, c.requires.last, streams)) in
+    let changed : after ≡ slice_set before (s - 1) new =
+    c.in_ok-append.ensures ∙ ap (λ log. slice_set before (s - 1) log) (ap (λ log. log ++ c.in_ok-batch.batch ∷ []) c.loop-slot.invariant.there ∙ sym more) in
+    record {
+      family = family_more first before after s old new low high changed c.loop-slot.invariant.family;
+      there = family_there first before after s old new low high changed;
+      streams = family_length first before after s old new low high changed ∙ c.loop-slot.invariant.streams;
+    }

@@ -1,0 +1,125 @@
+//! What a leader does with an Ack.
+
+ghost use Rattle.std.specs.Prelude.{◌≡◌, ℕ, ◌-◌, ◌≤◌, ◌<◌, ◌++◌, [], ◌∷◌, Bool, true, false, length, map, max, nat_lt, drop, slice_set, slice_index_or, IfOk, OnOk, Ok};
+ghost use Rattle.rl_election.specs.World.{no_stream};
+ghost use Rattle.rl_nodes.specs.Calls.{encoded};
+ghost use Rattle.rl_nodes.specs.Handles.{counts_ack};
+ghost use Rattle.rl_nodes.specs.Nodes.{Part, len_acknowledged, marks_are_acknowledged};
+ghost use Rattle.rl_nodes.specs.Setups.{SetupFits};
+ghost use Rattle.rl_paxos.specs.Leaders.{with_ack, IsAcknowledged, acknowledged_len};
+ghost use Rattle.rl_txn.specs.declared.item.Item.{Item};
+ghost use Rattle.rl_node.specs.Counting.{HasCounted, count_due, advanced};
+ghost use Rattle.rl_node.specs.Fits.{IsStream, LeadFits};
+ghost use Rattle.rl_node.specs.Leading.{stream_of};
+ghost use Rattle.rl_node.specs.Leads.{LeadTriesDue};
+ghost use Rattle.rl_node.specs.Outs.{Adds};
+ghost use Rattle.rl_node.specs.Sending.{known_of};
+ghost use Rattle.rl_node.specs.SetupOf.{setup_of};
+ghost use Rattle.rl_node.specs.Standing.{StandsLead, HasWorksOf, lead_with};
+ghost use Rattle.rl_node.specs.Behind.{IsBehind};
+
+use crate::answer::{Out, Sends, sending};
+use crate::part::Lead;
+use crate::reading::append_slots;
+use crate::sending::{From, send_known};
+use crate::setup::Setup;
+use rl_base::memory::Memory;
+use rl_nodes::node_error::NodeError;
+use rl_stream::leader_stream::LeaderStream;
+use rl_txn::item::Items;
+use std::alloc::Global;
+
+/// An Ack: its stream, the node that sent it, and how many batches that keeps.
+#[derive(Clone, Copy)]
+pub struct Ack {
+    pub stream: u32,
+    pub from: u32,
+    pub len: u32,
+}
+
+/// How many batches of a stream a second quorum has acked, before an Ack and after it.
+#[derive(Clone, Copy)]
+pub struct Counted {
+    pub before: u32,
+    pub after: u32,
+}
+
+impl Lead {
+    /// Counts an Ack in its stream.
+    fn count(&mut self, ack: Ack) -> Counted
+        requires first { 1 ≤ ack.stream }
+        requires last { ack.stream ≤ length self.old.streams.items }
+        requires within { ack.len ≤ length (stream_of self.old ack.stream).log }
+        ensures counted { HasCounted self.old self.new ack.stream ack.from ack.len }
+        ensures before { result.before ≡ len_acknowledged (stream_of self.old ack.stream) }
+        ensures after { result.after ≡ len_acknowledged (stream_of self.new ack.stream) }
+        ensures grows { result.before ≤ result.after }
+        ensures within { result.after ≤ length (stream_of self.new ack.stream).log }
+    {
+        count(&mut self.streams, ack)
+    }
+
+    /// Appends what became acknowledged of a stream, and tells each node how much that is.
+    fn acknowledge(
+        &mut self,
+        alloc: Global,
+        id: u32,
+        setup: &Setup,
+        stream: u32,
+        counted: Counted,
+    ) -> Result<Sends, Memory>
+        requires setup { SetupFits (setup_of setup.now) }
+        requires first { 1 ≤ id }
+        requires last { id ≤ (setup_of setup.now).nodes }
+        requires behind { IsBehind (setup_of setup.now) self.old stream counted.before counted.after }
+        ensures fits { OnOk result (LeadFits (setup_of setup.now) self.new) }
+        ensures same { OnOk result (self.new ≡ record self.old { acknowledged = self.new.acknowledged }) }
+        ensures sends { IfOk result (λ sends. Adds [] sends
+            (known_of id self.old.epoch stream (stream_of self.old stream) (setup_of setup.now).nodes)) }
+    {
+        let leading = stream_at(&self.streams, stream);
+        append_slots(
+            alloc,
+            &mut self.acknowledged,
+            stream,
+            leading.log(),
+            counted.before,
+            counted.after,
+        )?;
+        let from = From {
+            node: id,
+            epoch: self.epoch,
+            stream,
+        };
+        let mut sends = Sends::new(alloc);
+        send_known(alloc, &mut sends, from, leading, setup.nodes)?;
+        Ok(sends)
+    }
+}
+
+/// One of some streams.
+pub fn stream_at(streams: &Vec<LeaderStream>, stream: u32) -> &LeaderStream
+    requires first { 1 ≤ stream }
+    requires last { stream ≤ length streams.now.items }
+    ensures { result.now ≡ slice_index_or streams.now.items (stream - 1) no_stream }
+{
+    &streams[stream as usize - 1]
+}
+
+/// Counts an Ack in one of some streams.
+fn count(streams: &mut Vec<LeaderStream>, ack: Ack) -> Counted
+    requires first { 1 ≤ ack.stream }
+    requires last { ack.stream ≤ length streams.old.items }
+    requires within { ack.len ≤ length (slice_index_or streams.old.items (ack.stream - 1) no_stream).log }
+    ensures counted { streams.new.items ≡ slice_set streams.old.items (ack.stream - 1)
+        (with_ack (slice_index_or streams.old.items (ack.stream - 1) no_stream) ack.from ack.len) }
+    ensures before { result.before ≡ len_acknowledged (slice_index_or streams.old.items (ack.stream - 1) no_stream) }
+    ensures after { result.after ≡ len_acknowledged (slice_index_or streams.new.items (ack.stream - 1) no_stream) }
+    ensures grows { result.before ≤ result.after }
+    ensures within { result.after ≤ length (slice_index_or streams.new.items (ack.stream - 1) no_stream).log }
+{
+    let stream = &mut streams[ack.stream as usize - 1];
+    let before = stream.chosen_len();
+    let after = stream.ack(ack.from, ack.len);
+    Counted { before, after }
+}

@@ -1,0 +1,20 @@
+//! Laws of the workers on which what a leader keeps rests.
+
+ghost use Rattle.rl_worker.specs.Laws.{StampsRise, StampsStayBelow};
+ghost use Rattle.rl_worker.specs.OneTurn.{StepsTellNews, StampsStayInRange, ItemsStayInRange};
+
+use rl_worker::laws;
+
+/// The stamps of each worker rise and stay in the range of their epoch, what is decided is in range, and each step tells
+/// what ended and was refused in it.
+pub fn turns()
+    ensures rise { StampsRise }
+    ensures below { StampsStayBelow }
+    ensures in_range { StampsStayInRange }
+    ensures items { ItemsStayInRange }
+    ensures tells { StepsTellNews }
+{
+    laws::core_serial();
+    laws::ranges();
+    laws::one_step();
+}
