@@ -1,3 +1,4 @@
+pub mod Answering
 pub mod LastReleased
 pub mod Names
 pub mod Pending
@@ -5,5 +6,6 @@ pub mod Results
 pub mod Rows
 pub mod Sending
 pub mod Setups
+pub mod Standing
 pub mod Streams
 pub mod Taking

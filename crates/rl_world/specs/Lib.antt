@@ -1,7 +1,9 @@
+pub mod Finishing
 pub mod Laws
 pub mod Pending
 pub mod Refusing
 pub mod Releasing
 pub mod Reported
 pub mod Scripts
+pub mod Standing
 pub mod Telling

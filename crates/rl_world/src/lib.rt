@@ -5,5 +5,6 @@ mod blocks;
 pub mod laws;
 mod lines;
 mod releases;
+mod run;
 mod told;
 pub mod world_error;

@@ -4,6 +4,7 @@ ghost use Rattle.std.specs.Prelude.{◌≡◌, ℕ, ◌<◌, ◌≤◌, [], ◌+
 ghost use Rattle.std.specs.Option.{option_map, option_map_or};
 ghost use Rattle.rl_base.specs.declared.limit.TheConstants.{BYTES};
 ghost use Rattle.rl_net.specs.Messages.{bytes_sent};
+ghost use Rattle.rl_world.specs.Finishing.{HasFinished, HasNotFinished};
 ghost use Rattle.rl_world.specs.Refusing.{IsByBytes};
 ghost use Rattle.rl_world.specs.Reported.{denied_lines};
 ghost use Rattle.rl_world.specs.Telling.{message_of, opened_middle, HasTaken};
@@ -11,8 +12,10 @@ ghost use Rattle.rl_world.specs.Telling.{message_of, opened_middle, HasTaken};
 use crate::lines::push_denied;
 use crate::releases::release;
 use crate::world_error::WorldError;
+use rl_base::limit::{LimitName, SLOTS};
 use rl_base::memory::Memory;
 use rl_net::net::Net;
+use rl_node::NodeError;
 use rl_node::answer::{Opened, Out, Sends};
 use rl_paxos::refused::Refused;
 use rl_report::middle::{Lines, Middle};
@@ -41,15 +44,42 @@ impl Told {
         }
     }
 
+    /// Takes what a node answered at the message of a number, or at 0 where it received none. `Limit`; `Memory`.
+    pub fn finish(
+        &mut self,
+        number: u64,
+        node: u32,
+        answer: Result<Out, NodeError>,
+    ) -> Result<(), WorldError>
+        requires few { bytes_sent self.old.net ≤ BYTES }
+        requires count { self.old.sent ≡ length self.old.net }
+        ensures ok { OnOk result (HasFinished self.old self.new number node answer) }
+        ensures err { IfErr result (HasNotFinished self.old answer) }
+        ensures few { bytes_sent self.new.net ≤ BYTES }
+        ensures count { self.new.sent ≡ length self.new.net }
+    {
+        match answer {
+            Ok(out) => self.take(number, node, out),
+            Err(NodeError::StreamFull { .. }) => Err(WorldError::Limit {
+                name: LimitName::Slots,
+                limit: SLOTS,
+            }),
+            Err(NodeError::BadMessage) | Err(NodeError::NoEpoch { .. }) => Ok(()),
+            Err(NodeError::Memory) => Err(WorldError::Memory),
+        }
+    }
+
     /// Takes what a node hands out at the message of a number, or at 0 where it received none.
     ///
     /// `Limit` exactly where the bytes of all messages would be more than their limit; `Memory`.
-    pub fn take(&mut self, number: u64, node: u32, out: Out) -> Result<(), WorldError>
+    fn take(&mut self, number: u64, node: u32, out: Out) -> Result<(), WorldError>
         requires few { bytes_sent self.old.net ≤ BYTES }
         requires count { self.old.sent ≡ length self.old.net }
         ensures taken { OnOk result (HasTaken self.old self.new number node out) }
         ensures refused { IfErr result
             (IsByBytes (BYTES < bytes_sent (self.old.net ++ map message_of out.sends))) }
+        ensures few { bytes_sent self.new.net ≤ BYTES }
+        ensures count { self.new.sent ≡ length self.new.net }
     {
         let Out {
             sends,
@@ -68,8 +98,8 @@ impl Told {
         requires few { bytes_sent self.old.net ≤ BYTES }
         requires count { self.old.sent ≡ length self.old.net }
         ensures sent { OnOk result (self.new.net ≡ self.old.net ++ map message_of sends) }
-        ensures few { OnOk result (bytes_sent self.new.net ≤ BYTES) }
-        ensures count { OnOk result (self.new.sent ≡ length self.new.net) }
+        ensures few { bytes_sent self.new.net ≤ BYTES }
+        ensures count { self.new.sent ≡ length self.new.net }
         ensures refused { IfErr result (IsByBytes (BYTES < bytes_sent (self.old.net ++ map message_of sends))) }
         ensures released { self.new.released ≡ self.old.released }
         ensures lines { self.new.lines ≡ self.old.lines }
