@@ -87,22 +87,67 @@ fn accepts(
     Ok(leader.ack(node, len))
 }
 
-/// Two of three nodes promise epoch 1 and adopt the leader's log, and a batch is chosen once both have acked it.
-#[test]
-fn one_election_and_one_chosen_batch(rt: HostRuntime) -> Result<(), Fail> {
-    let alloc = rt.alloc();
-    let mut one = Acceptor::new(alloc, 1)?;
-    let mut two = Acceptor::new(alloc, 1)?;
+/// Two of three nodes promise epoch 1 to a candidate, and it leads.
+fn elected(
+    rt: &impl Abort,
+    alloc: Global,
+    one: &mut Acceptor,
+    two: &mut Acceptor,
+) -> Result<LeaderStream, Fail>
+    requires one { length one.old.streams ≡ 1 }
+    requires two { length two.old.streams ≡ 1 }
+    ensures one { length one.new.streams ≡ 1 }
+    ensures two { length two.new.streams ≡ 1 }
+{
     let mut candidate = Candidate::start(alloc, 1, 3, 1, 2)?;
-    promises(&rt, alloc, &mut candidate, 1, &mut one)?;
-    promises(&rt, alloc, &mut candidate, 2, &mut two)?;
-    let mut leader = leading(&rt, alloc, &candidate)?;
-    assert_eq!(rt; adopts(&rt, alloc, &mut leader, 1, &mut one)?, 0);
-    assert_eq!(rt; adopts(&rt, alloc, &mut leader, 2, &mut two)?, 1);
+    promises(rt, alloc, &mut candidate, 1, one)?;
+    promises(rt, alloc, &mut candidate, 2, two)?;
+    leading(rt, alloc, &candidate)
+}
+
+/// Two nodes adopt the leader's log, and it is chosen once both have acked it.
+fn both_adopt(
+    rt: &impl Abort,
+    alloc: Global,
+    leader: &mut LeaderStream,
+    one: &mut Acceptor,
+    two: &mut Acceptor,
+) -> Result<(), Fail>
+    requires one { length one.old.streams ≡ 1 }
+    requires two { length two.old.streams ≡ 1 }
+    ensures one { length one.new.streams ≡ 1 }
+    ensures two { length two.new.streams ≡ 1 }
+{
+    assert_eq!(rt; adopts(rt, alloc, leader, 1, one)?, 0);
+    assert_eq!(rt; adopts(rt, alloc, leader, 2, two)?, 1);
+    Ok(())
+}
+
+/// Two nodes accept the leader's batch, and it is chosen once both have acked it.
+fn both_accept(
+    rt: &impl Abort,
+    alloc: Global,
+    leader: &mut LeaderStream,
+    one: &mut Acceptor,
+    two: &mut Acceptor,
+) -> Result<(), Fail>
+    requires one { length one.old.streams ≡ 1 }
+    requires two { length two.old.streams ≡ 1 }
+{
     let slot = leader.propose(Bytes::from_slice(alloc, b"batch")?)?;
     assert_eq!(rt; slot, 1);
-    assert_eq!(rt; accepts(&rt, alloc, &mut leader, 2, &mut two)?, 1);
-    assert_eq!(rt; accepts(&rt, alloc, &mut leader, 1, &mut one)?, 2);
+    assert_eq!(rt; accepts(rt, alloc, leader, 2, two)?, 1);
+    assert_eq!(rt; accepts(rt, alloc, leader, 1, one)?, 2);
+    Ok(())
+}
+
+#[test]
+fn one_election_and_one_chosen_batch(rt: HostRuntime) -> Result<(), Fail> {
+    let mut one = Acceptor::new(rt.alloc(), 1)?;
+    let mut two = Acceptor::new(rt.alloc(), 1)?;
+    let mut leader = elected(&rt, rt.alloc(), &mut one, &mut two)?;
+    both_adopt(&rt, rt.alloc(), &mut leader, &mut one, &mut two)?;
+    both_accept(&rt, rt.alloc(), &mut leader, &mut one, &mut two)?;
     assert_eq!(rt; leader.chosen_len(), 2);
     assert_eq!(rt; leader.resend(3), Resend::Sync);
     Ok(())
