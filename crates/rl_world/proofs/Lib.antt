@@ -1,5 +1,8 @@
 pub mod Answering
+pub mod Beginning
+pub mod Dropping
 pub mod LastReleased
+pub mod Marking
 pub mod Names
 pub mod Pending
 pub mod Results
