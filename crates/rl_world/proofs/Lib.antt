@@ -1,5 +1,6 @@
 pub mod Answering
 pub mod Beginning
+pub mod Delivering
 pub mod Dropping
 pub mod LastReleased
 pub mod Marking
