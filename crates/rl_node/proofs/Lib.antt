@@ -1,7 +1,13 @@
+pub mod Acceptors
+pub mod Answering
 pub mod Beginnings
 pub mod Changes
 pub mod Elections
+pub mod Good
 pub mod Items
 pub mod Logs
 pub mod Outer
+pub mod Promises
 pub mod Sends
+pub mod Shown
+pub mod Taking

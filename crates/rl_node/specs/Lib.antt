@@ -3,10 +3,13 @@ pub mod Beginning
 pub mod Changing
 pub mod Doing
 pub mod Fits
+pub mod Good
 pub mod Inner
 pub mod Named
 pub mod Outs
+pub mod Refusing
 pub mod Sending
 pub mod SetupOf
+pub mod Showing
 pub mod Standing
 pub mod Wrong

@@ -4,6 +4,7 @@ ghost use Rattle.std.specs.Prelude.{◌≡◌, ◌≤◌, ℕ, IfOk, OnOk, OnErr
 ghost use Rattle.rl_election.specs.World.{is_up};
 ghost use Rattle.rl_nodes.specs.Calls.{Standing};
 ghost use Rattle.rl_nodes.specs.Elections.{crashed, returned, lost};
+ghost use Rattle.rl_nodes.specs.Events as events;
 ghost use Rattle.rl_nodes.specs.Nodes.{new_node};
 ghost use Rattle.rl_nodes.specs.Setups.{SetupFits};
 ghost use Rattle.std.specs.Result.{result_err};
@@ -17,6 +18,7 @@ use crate::setup::Setup;
 use rl_acceptor::acceptor::Acceptor;
 use rl_base::memory::Memory;
 use rl_nodes::node_error::NodeError;
+use rl_value::map::Map;
 use std::alloc::Global;
 
 /// Whether a node is up, with what it loses when it crashes, down, or lost for good.
@@ -57,6 +59,32 @@ impl Node {
         ensures stands { ForStanding self.now (λ setup a x. result ≡ is_up x.node.state) }
     {
         matches!(self.phase, Phase::Up(_))
+    }
+
+    /// Whether it is down.
+    pub fn is_down(&self) -> bool
+        ensures down { result ≡ is_down self.now }
+        ensures stands { ForStanding self.now (λ setup a x. result ≡ events.is_down x.node.state) }
+    {
+        matches!(self.phase, Phase::Down)
+    }
+
+    /// Whether it is lost for good.
+    pub fn is_lost(&self) -> bool
+        ensures { ForStanding self.now (λ setup a x. result ≡ events.is_lost x.node.state) }
+    {
+        matches!(self.phase, Phase::Lost)
+    }
+
+    /// The rows of its replica.
+    pub fn map(&self) -> &Map
+        requires { is_running self.now ≡ true }
+        ensures { ForStanding self.now (λ setup a x. result.now ≡ x.node.replica.rows) }
+    {
+        let Phase::Up(running) = &self.phase else {
+            unreachable!()
+        };
+        running.replica.map()
     }
 
     /// The greatest epoch that it promised.

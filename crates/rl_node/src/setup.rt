@@ -47,4 +47,25 @@ impl Setup {
             lists,
         }
     }
+
+    /// The tables.
+    pub fn schema(&self) -> &Schema
+        ensures { result.now ≡ (setup_of self.now).program.tables }
+    {
+        &self.schema
+    }
+
+    /// How many nodes there are.
+    pub fn nodes(&self) -> u32
+        ensures { result ≡ (setup_of self.now).nodes }
+    {
+        self.nodes
+    }
+
+    /// How many workers there are, and so many streams.
+    pub fn workers(&self) -> u32
+        ensures { result ≡ (setup_of self.now).workers }
+    {
+        self.workers
+    }
 }
