@@ -10,9 +10,9 @@ use Rattle.rl_msg.specs.Ranges.{MsgInRange}
 use Rattle.rl_net.specs.Messages.{bytes_sent}
 use Rattle.rl_nodes.specs.declared.node_error.NodeError.{NodeError}
 use Rattle.rl_nodes.specs.declared.node_error.NodeError.TheVariants as node
-use Rattle.rl_nodes.specs.Answers.{Did, Answer, quiet}
+use Rattle.rl_nodes.specs.Answers.{Did, Answer, sending, quiet}
 use Rattle.rl_nodes.specs.Calls.{Standing}
-use Rattle.rl_nodes.specs.Elections.{stands, elects}
+use Rattle.rl_nodes.specs.Elections.{stands, elects, ticks, sends_again}
 use Rattle.rl_nodes.specs.Events.{does_up, changes_up}
 use Rattle.rl_nodes.specs.Nodes.{NodeState, new_node}
 use Rattle.rl_nodes.specs.Setups.{Setup}
@@ -215,3 +215,9 @@ pub node_after : (setup : Setup) (a : ℕ) (n : Node) (x : Standing) (due : Answ
     → IfOk answer (Does setup a n x due) → IfErr answer (Refuses setup a n x due) → IsNode setup n
 node_after setup a n x due (Ok out) does refuses = (a, does.new, does.stands)
 node_after setup a n x due (Err error) does refuses = (a, refuses.new, refuses.stands)
+
+-- nor does what is sent again
+pub tick_plain : (setup : Setup) (a : ℕ) (x : NodeState) (w : World) → TellsPlainly w (ticks setup a x)
+tick_plain setup a x w did e =
+    let same : sending x (sends_again setup a x.part) ≡ did = cc in
+    (ap (λ (d : Did). d.refusal) (sym same), subst (GainSuffices w.released) (ap (λ (d : Did). d.release) same) tt)

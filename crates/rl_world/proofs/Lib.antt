@@ -1,5 +1,9 @@
 pub mod Answering
+pub mod Beginning
+pub mod Delivering
+pub mod Dropping
 pub mod LastReleased
+pub mod Marking
 pub mod Names
 pub mod Pending
 pub mod Results

@@ -1,9 +1,9 @@
 //! What was sent, released and told.
 
-ghost use Rattle.std.specs.Prelude.{◌≡◌, ℕ, ◌<◌, ◌≤◌, [], ◌++◌, length, map, option_to_list, OnOk, IfErr};
+ghost use Rattle.std.specs.Prelude.{◌≡◌, ℕ, ◌<◌, ◌≤◌, ◌⊎◌, [], ◌∷◌, ◌++◌, length, map, option_to_list, None, IsSome, OnOk, IfErr};
 ghost use Rattle.std.specs.Option.{option_map, option_map_or};
 ghost use Rattle.rl_base.specs.declared.limit.TheConstants.{BYTES};
-ghost use Rattle.rl_net.specs.Messages.{bytes_sent};
+ghost use Rattle.rl_net.specs.Messages.{bytes_sent, message_at, dropped_at};
 ghost use Rattle.rl_world.specs.Finishing.{HasFinished, HasNotFinished};
 ghost use Rattle.rl_world.specs.Refusing.{IsByBytes};
 ghost use Rattle.rl_world.specs.Reported.{denied_lines};
@@ -41,6 +41,20 @@ impl Told {
             sent: 0,
             released: Items::new(alloc),
             lines: Lines::new(alloc),
+        }
+    }
+
+    /// Drops a message, or tells that none of its number was sent.
+    pub fn discard(&mut self, number: u64) -> Result<(), Memory>
+        ensures net { self.new.net ≡ dropped_at self.old.net number }
+        ensures told { OnOk result ((IsSome (message_at self.old.net number) × (self.new.lines ≡ self.old.lines))
+            ⊎ ((message_at self.old.net number ≡ None) × (self.new.lines ≡ self.old.lines ++ Middle.NoMessage number ∷ []))) }
+        ensures sent { self.new.sent ≡ self.old.sent }
+        ensures released { self.new.released ≡ self.old.released }
+    {
+        match self.net.discard(number) {
+            Ok(()) => Ok(()),
+            Err(_) => self.lines.push(Middle::NoMessage { number }),
         }
     }
 
