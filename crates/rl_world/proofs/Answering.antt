@@ -5,7 +5,7 @@ use Rattle.std.specs.Vec.{with_item}
 use Rattle.std.proofs.lemmas.List.{set-get_or, length-set}
 use Rattle.std.proofs.lemmas.List.Elements.{All-nil}
 use Rattle.rl_base.specs.declared.limit.TheConstants.{BYTES}
-use Rattle.rl_election.specs.World.{is_up}
+use Rattle.rl_election.specs.World.{State, is_up}
 use Rattle.rl_msg.specs.Ranges.{MsgInRange}
 use Rattle.rl_net.specs.Messages.{bytes_sent}
 use Rattle.rl_nodes.specs.declared.node_error.NodeError.{NodeError}
@@ -13,7 +13,7 @@ use Rattle.rl_nodes.specs.declared.node_error.NodeError.TheVariants as node
 use Rattle.rl_nodes.specs.Answers.{Did, Answer, sending, quiet}
 use Rattle.rl_nodes.specs.Calls.{Standing}
 use Rattle.rl_nodes.specs.Elections.{stands, elects, ticks, sends_again}
-use Rattle.rl_nodes.specs.Events.{does_up, changes_up}
+use Rattle.rl_nodes.specs.Events.{does_up, does_where}
 use Rattle.rl_nodes.specs.Nodes.{NodeState, new_node}
 use Rattle.rl_nodes.specs.Setups.{Setup}
 use Rattle.rl_nodes.specs.World.{World, Ran, node_of, after_doing, after_answer}
@@ -99,9 +99,10 @@ module _ (r : Run) (w : World) (a number : ℕ) (n : Node) (did : Did) (out : Ou
 
 -- a node that does nothing but change
 module _ (r : Run) (a : ℕ) (n : Node) (change : NodeState → NodeState) (safe : IsSafe r) (is : IsNumberOf (setup_of r.setup) a) where
-  pub changes : (w : World) → StandsRun r w → is_up (node_of (setup_of r.setup) w a).state ≡ true
-      → Stands (setup_of r.setup) a n (answers (change (node_of (setup_of r.setup) w a))) → HasRun (with_node r a n r.told) (changes_up (setup_of r.setup) a change w)
-  changes w st up at =
+  pub changes : (test : State → Bool) (w : World) → StandsRun r w → test (node_of (setup_of r.setup) w a).state ≡ true
+      → Stands (setup_of r.setup) a n (answers (change (node_of (setup_of r.setup) w a)))
+      → HasRun (with_node r a n r.told) (does_where test (setup_of r.setup) a (λ x. Ok (quiet (change x))) w)
+  changes test w st passes at =
       let x = node_of (setup_of r.setup) w a in
       let did : Did = quiet (change x) in
       let out : Out = record { sends = []; opened = None; denied = None; released = [] } in
@@ -114,14 +115,15 @@ module _ (r : Run) (a : ℕ) (n : Node) (change : NodeState → NodeState) (safe
         lines = sym (append-nil r.told.lines);
       } in
       let after = done r w a 0 n did out safe is st at is_out refl tt r.told taken in
-      record { world = after.world; is = ap (λ b. cond b (after_answer w a 0 (Ok did)) (Ok w)) up ∙ after.is; stands = after.stands }
+      record { world = after.world; is = ap (λ b. cond b (after_answer w a 0 (Ok did)) (Ok w)) passes ∙ after.is; stands = after.stands }
 
--- where it is not up nothing is done
-pub not_up : (r : Run) (a : ℕ) (n : Node) (due : NodeState → Answer) (w : World) → StandsRun r w → n ≡ get_or r.nodes.items (a - 1) n
-    → is_up (node_of (setup_of r.setup) w a).state ≡ false → HasRun (with_node r a n r.told) (does_up (setup_of r.setup) a due w)
-not_up r a n due w st read down = record {
+-- where its state fails the test nothing is done
+pub nothing_done : (test : State → Bool) (r : Run) (a : ℕ) (n : Node) (due : NodeState → Answer) (w : World) → StandsRun r w
+    → n ≡ get_or r.nodes.items (a - 1) n → test (node_of (setup_of r.setup) w a).state ≡ false
+    → HasRun (with_node r a n r.told) (does_where test (setup_of r.setup) a due w)
+nothing_done test r a n due w st read fails = record {
   world = w;
-  is = ap (λ b. cond b (after_answer w a 0 (due (node_of (setup_of r.setup) w a))) (Ok w)) down;
+  is = ap (λ b. cond b (after_answer w a 0 (due (node_of (setup_of r.setup) w a))) (Ok w)) fails;
   stands = same_run r w a n st read;
 }
 

@@ -1,8 +1,9 @@
 //! The nodes of a run, and what events do to them.
 
-ghost use Rattle.std.specs.Prelude.{◌≡◌, IfOk};
-ghost use Rattle.rl_nodes.specs.Elections.{elects, ticks, crashed};
-ghost use Rattle.rl_nodes.specs.Events.{does_up, changes_up, drops};
+ghost use Rattle.std.specs.Prelude.{◌≡◌, not, Ok, IfOk};
+ghost use Rattle.rl_nodes.specs.Answers.{quiet};
+ghost use Rattle.rl_nodes.specs.Elections.{elects, ticks, crashed, lost};
+ghost use Rattle.rl_nodes.specs.Events.{is_lost, does_where, does_up, changes_up, drops};
 ghost use Rattle.rl_nodes.specs.Setups.{SetupFits};
 ghost use Rattle.rl_nodes.specs.World.{new_world};
 ghost use Rattle.rl_node.specs.SetupOf.{setup_of};
@@ -55,6 +56,22 @@ impl Run {
         if node.is_up() {
             node.crash();
         }
+    }
+
+    /// A node is lost for good where it is not lost yet.
+    pub fn lose(&mut self, a: u32)
+        requires safe { IsSafe self.old }
+        requires node { IsNumberOf (setup_of self.old.setup) a }
+        ensures runs { let setup = setup_of self.old.setup in Runs self.old self.new
+            (does_where (λ state. not (is_lost state)) setup a (λ x. Ok (quiet (lost setup x)))) }
+        ensures safe { IsSafe self.new }
+        ensures setup { self.new.setup ≡ self.old.setup }
+    {
+        let node = &mut self.nodes[a as usize - 1];
+        if node.is_lost() {
+            return;
+        }
+        node.lose();
     }
 
     /// A node stands for its next epoch where it is up.

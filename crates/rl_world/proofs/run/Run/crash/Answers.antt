@@ -1,10 +1,11 @@
 use Rattle.std.proofs.Common.{None, Ok, sym, ◌∙◌}
 use Rattle.rl_nodes.specs.Answers.{quiet}
 use Rattle.rl_nodes.specs.Elections.{crashed}
+use Rattle.rl_election.specs.World.{is_up}
 use Rattle.rl_nodes.specs.World.{node_of}
 use Rattle.rl_node.specs.SetupOf.{setup_of}
 use Rattle.rl_world.specs.Standing.{answers}
-use Rattle.rl_world.proofs.Answering.{node_read, safe_read, safe_with, changes, not_up}
+use Rattle.rl_world.proofs.Answering.{node_read, safe_read, safe_with, changes, nothing_done}
 use Rattle.rl_world.proofs.run.Run.crash.Goals as goal
 
 pub returns-then-is_up-clause-runs : goal.returns-then-is_up-clause-runs
@@ -12,7 +13,7 @@ returns-then-is_up-clause-runs c w st =
     let r = c.args.self.now in
     let setup = setup_of r.setup in
     let at = node_read r w c.args.a c.index_mut-node.result.now c.requires.node st c.index_mut-node.ensures.value in
-    changes r c.args.a c.crash.new.self (crashed setup) c.requires.safe c.requires.node w st
+    changes r c.args.a c.crash.new.self (crashed setup) c.requires.safe c.requires.node is_up w st
     (sym (c.is_up.ensures.stands setup c.args.a (answers (node_of setup w c.args.a)) at) ∙ c.if-is_up.true)
     (c.crash.ensures.up (sym c.is_up.ensures.up ∙ c.if-is_up.true) setup c.args.a (answers (node_of setup w c.args.a)) at)
 
@@ -30,7 +31,7 @@ returns-else-is_up-clause-runs c w st =
     let r = c.args.self.now in
     let setup = setup_of r.setup in
     let at = node_read r w c.args.a c.index_mut-node.result.now c.requires.node st c.index_mut-node.ensures.value in
-    not_up r c.args.a c.index_mut-node.result.now (λ x. Ok (quiet (crashed setup x))) w st c.index_mut-node.ensures.value
+    nothing_done is_up r c.args.a c.index_mut-node.result.now (λ x. Ok (quiet (crashed setup x))) w st c.index_mut-node.ensures.value
     (sym (c.is_up.ensures.stands setup c.args.a (answers (node_of setup w c.args.a)) at) ∙ c.if-is_up.false)
 
 pub returns-else-is_up-clause-safe : goal.returns-else-is_up-clause-safe

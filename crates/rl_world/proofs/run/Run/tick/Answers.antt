@@ -1,9 +1,10 @@
 use Rattle.std.proofs.Common.{sym, ◌∙◌}
 use Rattle.rl_nodes.specs.Elections.{ticks}
+use Rattle.rl_election.specs.World.{is_up}
 use Rattle.rl_nodes.specs.World.{World, node_of}
 use Rattle.rl_node.specs.SetupOf.{setup_of}
 use Rattle.rl_world.specs.Standing.{answers, StandsRun}
-use Rattle.rl_world.proofs.Answering.{node_read, safe_read, safe_with, with_node, not_up, answered, up_answered, tick_plain, node_after}
+use Rattle.rl_world.proofs.Answering.{node_read, safe_read, safe_with, with_node, nothing_done, answered, up_answered, tick_plain, node_after}
 use Rattle.rl_world.proofs.run.Run.tick.Goals as goal
 
 pub tick-answer-requires-clause-node : goal.tick-answer-requires-clause-node
@@ -45,7 +46,7 @@ returns-else-is_up-clause-runs c w st =
     let r = c.args.self.now in
     let setup = setup_of r.setup in
     let at = node_read r w c.args.a c.index_mut-node.result.now c.requires.node st c.index_mut-node.ensures.value in
-    not_up r c.args.a c.index_mut-node.result.now (ticks setup c.args.a) w st c.index_mut-node.ensures.value
+    nothing_done is_up r c.args.a c.index_mut-node.result.now (ticks setup c.args.a) w st c.index_mut-node.ensures.value
     (sym (c.is_up.ensures.stands setup c.args.a (answers (node_of setup w c.args.a)) at) ∙ c.if-is_up.false)
 
 pub returns-else-is_up-clause-safe : goal.returns-else-is_up-clause-safe
