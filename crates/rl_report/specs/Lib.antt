@@ -1,4 +1,11 @@
-pub mod Lines
-pub mod Printed
+pub mod Answers
 pub mod Forms
+pub mod Laws
+pub mod LineForms
+pub mod Lines
+pub mod Numbers
 pub mod Parts
+pub mod Printed
+pub mod Read
+pub mod Readers
+pub mod Words

@@ -1,12 +1,14 @@
 //! The printed form of a report.
 
-ghost use Rattle.std.specs.Prelude.{◌≡◌, ◌∷◌, [], ◌++◌, All, IfOk, OnOk, codes, length, map};
+ghost use Rattle.std.specs.Prelude.{◌≡◌, ◌∷◌, [], ◌++◌, All, Ok, IfOk, OnOk, codes, length, map};
 ghost use Rattle.std.specs.List.{flat_map};
 ghost use Rattle.std.specs.String.{string_bytes};
 ghost use Rattle.std.specs.Fmt.{decimal};
 ghost use Rattle.rl_text.specs.Printed.{line_of, text_of};
 ghost use Rattle.rl_report.specs.Forms.{IsWord, AreNamed, IsEffect, IsReport};
+ghost use Rattle.rl_report.specs.Numbers.{HasNumbers};
 ghost use Rattle.rl_report.specs.Parts.{CanPrint};
+ghost use Rattle.rl_report.specs.Read.{read_report};
 ghost use Rattle.rl_report.specs.Printed.{end_words, item_words, row_words, stream_words, role_words, at_word, head_words, block_lines, denied_words, middle_lines, title_word, table_lines, report_lines, printed};
 
 use crate::block::{Block, Head, RoleLine};
@@ -326,10 +328,12 @@ fn push_report(out: &mut String, report: &Report) -> Result<(), AllocError>
 }
 
 /// The text of a report of one of the four forms. Each line is ended, and one space is between two
-/// words.
+/// words. `parse_report` takes it, and answers the report again.
+#[tactic(auto, using(crate::proofs::Both::printed_is_read))]
 pub fn print_report(alloc: Global, report: &Report) -> Result<Bytes, Memory>
     requires { IsReport report.now }
-    ensures { IfOk result (λ text. text ≡ printed report.now) }
+    ensures text { IfOk result (λ text. text ≡ printed report.now) }
+    ensures read { IfOk result (λ text. HasNumbers report.now → read_report text ≡ Ok report.now) }
 {
     let mut out = String::new(alloc);
     push_report(&mut out, report)?;

@@ -1,0 +1,8 @@
+use Rattle.rl_report.proofs.Both.{printed_so, form_so}
+use Rattle.rl_report.proofs.parse.parse_report.Goals as goal
+
+pub returns-in-Ok-clause-form : goal.returns-in-Ok-clause-form
+returns-in-Ok-clause-form c = form_so c.args.text.now c.in-Ok.report c.is_ended-ended.result c.is_ended-ended.ensures c.if-ended.true c.in-Ok.ensures
+
+pub returns-in-Ok-clause-printed : goal.returns-in-Ok-clause-printed
+returns-in-Ok-clause-printed c = printed_so c.args.text.now c.in-Ok.report c.is_ended-ended.result c.is_ended-ended.ensures c.if-ended.true c.in-Ok.ensures
