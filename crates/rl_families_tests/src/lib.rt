@@ -1,7 +1,9 @@
-//! Tests of families, of the queue of replies and of replicas.
+//! Tests of families, of the queue of replies and of replicas, and families that are drawn from a
+//! seed for them and for the bench.
 #![tactic(auto)]
 
-#[cfg(test)]
+pub mod arrivals;
+pub mod followers;
 mod items;
 #[cfg(test)]
 mod logs;
