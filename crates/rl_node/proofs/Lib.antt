@@ -1,3 +1,11 @@
+-- The proof in words. A node in code stands for a node of the definitions: each call does what they say (Outer, from a
+-- node that is up to any). What it stands for is told part by part: Changes has another acceptor or part of a node,
+-- Leaders another stream of a leader, Streams and Logs the logs of bytes and the families that follow them.
+--     Beginnings: nodes that begin, crash, return and are lost. Shown: how a node is shown. Promises, Elections, Sends:
+-- what it promises and sends. Good, Acceptors, Answering, Taking: a message that is not bad, what the acceptor keeps
+-- after it, and the node's answer.
+--     A leader. Turns: a worker's turn is one of the core. Proposals, Flushes: what is pending is proposed; Ranges: in
+-- the range of batches. Keeps: what a leader keeps of a stream stays true through both.
 pub mod Acceptors
 pub mod Answering
 pub mod Beginnings

@@ -10,8 +10,8 @@ use Rattle.rl_txn.specs.declared.op.Op.{Op}
 use Rattle.rl_value.specs.Tables.{Table}
 use Rattle.rl_worker.specs.Acts.{Core, Turn, Step, phase_of, is_done, may, micro, settle, begin, step, turn, after_turns, opening_core}
 use Rattle.rl_worker.specs.Items.{CoreItem, insert_by_stamp}
-use Rattle.rl_worker.specs.Laws.{IsFalling, stamps_by, StampsRise}
-use Rattle.rl_worker.specs.OneTurn.{SeenInRange, ItemsStayInRange, StepsTellNews, TellsNews, newly_ended, newly_refused}
+use Rattle.rl_worker.specs.Laws.{IsFalling, stamps_by, StampsRise, ItemsStayInRange, StepsTellNews}
+use Rattle.rl_worker.specs.OneTurn.{SeenInRange, TellsNews, newly_ended, newly_refused}
 use Rattle.rl_worker.specs.Told.{refused}
 use Rattle.rl_base.specs.declared.memory.Memory.{Memory}
 use Rattle.rl_node.specs.Stepping.{HasStepped}

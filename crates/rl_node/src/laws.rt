@@ -1,7 +1,6 @@
 //! Laws of the workers on which what a leader keeps rests.
 
-ghost use Rattle.rl_worker.specs.Laws.{StampsRise, StampsStayBelow};
-ghost use Rattle.rl_worker.specs.OneTurn.{StepsTellNews, StampsStayInRange, ItemsStayInRange};
+ghost use Rattle.rl_worker.specs.Laws.{StampsRise, StampsStayBelow, StepsTellNews, StampsStayInRange, ItemsStayInRange};
 
 use rl_worker::laws;
 

@@ -1,3 +1,9 @@
+-- The proof in words. A run in code stands for a world of the definitions: Standing has one node of it changed,
+-- Beginning its first. Setups: a script makes a setup in range, so that the nodes fit it.
+--     What a node did is told as the world has it (Taking, Answering): its messages are sent one after another
+-- (Sending), and lines, refusals and released items join those told before (LastReleased).
+--     Messages: Marking, Dropping and Delivering have one that is delivered or dropped, Pending those that are left.
+--     Reports: Names, Rows and Streams have the parts that are printed.
 pub mod Answering
 pub mod Beginning
 pub mod Delivering
