@@ -26,3 +26,4 @@ pub mod Shown
 pub mod Streams
 pub mod Taking
 pub mod Turns
+pub mod Wrongs

@@ -16,6 +16,7 @@ mod sending;
 pub mod setup;
 mod stepping;
 mod viewing;
+mod wrong;
 
 pub use rl_nodes::node_error::NodeError;
 pub use rl_nodes::view::{NodeView, Role, State, StreamView, StreamViews};
