@@ -1,5 +1,6 @@
 pub mod Acceptors
 pub mod Answering
+pub mod Bads
 pub mod Beginnings
 pub mod Changes
 pub mod Elections
