@@ -8,6 +8,7 @@
 -- the range of batches. Keeps: what a leader keeps of a stream stays true through both.
 pub mod Acceptors
 pub mod Answering
+pub mod Bads
 pub mod Beginnings
 pub mod Changes
 pub mod Elections

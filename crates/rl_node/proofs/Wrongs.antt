@@ -1,5 +1,5 @@
 -- What is wrong with a log, batch by batch, is what is wrong with it as a whole.
-use Rattle.std.proofs.Common.{◌≡◌, ℕ, List, [], ◌∷◌, ◌++◌, Bool, true, false, not, ◌&&◌, ◌||◌, Option, Some, None, is_some, refl, sym, ap, ap₂, ◌∙◌, subst, true≢false}
+use Rattle.std.proofs.Common.{◌≡◌, ℕ, List, [], ◌∷◌, ◌++◌, Bool, true, false, not, ◌&&◌, ◌||◌, Option, Some, None, is_some, refl, sym, ap, ◌∙◌, true≢false}
 use Rattle.std.specs.List.{list_all, list_any, cons_option}
 use Rattle.std.specs.Option.{option_map_or}
 use Rattle.std.proofs.lemmas.List.Folds.{list_any-append}
@@ -10,7 +10,6 @@ use Rattle.rl_base.proofs.Tests.{both, both_true, neither, or_false}
 use Rattle.rl_families.specs.Logs.{stamps_in_batch, items_in_batch, stamps_along, items_along}
 use Rattle.rl_paxos.specs.Logs as bytes
 use Rattle.rl_txn.specs.declared.batch.Batch.{Batch}
-use Rattle.rl_txn.specs.declared.item.Item.{Item}
 use Rattle.rl_value.specs.Tables.{Table}
 use Rattle.rl_nodes.specs.BadMessages.{Carried, is_wrong, has_no_batch, has_other_worker, has_later_epoch, has_disorder, has_misfit}
 use Rattle.rl_nodes.specs.Batches.{batch_of, batches_of, are_batches, are_rising}

@@ -4,6 +4,7 @@
 mod accepting;
 mod acking;
 pub mod answer;
+mod bad;
 mod electing;
 mod laws;
 pub mod node;

@@ -28,8 +28,8 @@ pub struct Place {
     pub epoch: u32,
 }
 
-/// Whether something is wrong with a log: some bytes are no batch, a batch is another worker's, of a later epoch, does not
-/// fit the tables, or is out of order.
+/// Whether something is wrong with a log: some bytes are no batch, or a batch is another worker's, of a later epoch, out
+/// of order, or does not fit the tables.
 pub fn is_wrong(alloc: Global, schema: &Schema, place: Place, log: &[Bytes]) -> Result<bool, Memory>
     ensures { IfOk result (λ wrong. wrong
         ≡ is_wrong schema.now (record { stream = place.stream; epoch = place.epoch; log = log.now })) }

@@ -1,4 +1,4 @@
-use Rattle.std.proofs.Common.{subst, IfOk}
+use Rattle.std.proofs.Common.{◌≡◌, subst, IfOk}
 use Rattle.rl_node.proofs.Wrongs.{wrong_by_batches}
 use Rattle.rl_node.proofs.wrong.is_wrong.Goals as goal
 
