@@ -7,17 +7,22 @@
 --     A leader. Turns: a worker's turn is one of the core. Proposals, Flushes: what is pending is proposed; Ranges: in
 -- the range of batches. Keeps: what a leader keeps of a stream stays true through both.
 pub mod Acceptors
+pub mod Advancing
 pub mod Answering
 pub mod Bads
 pub mod Beginnings
 pub mod Changes
+pub mod Decoded
 pub mod Elections
 pub mod Flushes
 pub mod Good
+pub mod Histories
 pub mod Items
 pub mod Keeps
 pub mod Leaders
 pub mod Logs
+pub mod Opened
+pub mod Opens
 pub mod Outer
 pub mod Promises
 pub mod Proposals

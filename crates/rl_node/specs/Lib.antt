@@ -11,6 +11,7 @@ pub mod Keeping
 pub mod Leading
 pub mod Leads
 pub mod Named
+pub mod Opening
 pub mod Outs
 pub mod Proposing
 pub mod Refusing

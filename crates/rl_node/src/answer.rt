@@ -64,6 +64,18 @@ pub fn answering(alloc: Global, m: &Msg) -> Result<Out, Memory>
     Ok(sending(alloc, sends))
 }
 
+/// It sends some messages, and releases some items.
+pub fn releasing(sends: Sends, released: Items) -> Out
+    ensures { result ≡ record { sends = sends; opened = None; denied = None; released = released } }
+{
+    Out {
+        sends,
+        opened: None,
+        denied: None,
+        released,
+    }
+}
+
 /// It refuses a message.
 pub fn denying(alloc: Global, refused: Refused) -> Out
     ensures { result ≡ record { sends = []; opened = None; denied = Some refused; released = [] } }

@@ -23,7 +23,8 @@ use Rattle.rl_msg.specs.Parts.{head_of}
 use Rattle.rl_txn.specs.declared.batch.Batch.{Batch}
 use Rattle.rl_txn.specs.declared.batch.Batch.TheVariants.{Items}
 use Rattle.rl_worker.specs.Acts.{Core, CoreRefusal, Step, Idle, turn, step, idle, resting, may, is_done, phase_of}
-use Rattle.rl_worker.specs.OneTurn.{StepsAreOne, newly_refused}
+use Rattle.rl_worker.specs.Laws.{StepsAreOne}
+use Rattle.rl_worker.specs.OneTurn.{newly_refused}
 use Rattle.rl_worker.specs.Phases.{Setting}
 use Rattle.rl_nodes.specs.declared.node_error.NodeError.TheVariants.{BadMessage, StreamFull, NoEpoch, Memory}
 use Rattle.rl_nodes.specs.Answers.{Did, Answer, quiet, sending, to_each, unless_denied}
