@@ -5,7 +5,9 @@
 -- what it promises and sends. Good, Acceptors, Answering, Taking: a message that is not bad, what the acceptor keeps
 -- after it, and the node's answer.
 --     A leader. Turns: a worker's turn is one of the core. Proposals, Flushes: what is pending is proposed; Ranges: in
--- the range of batches. Keeps: what a leader keeps of a stream stays true through both.
+-- the range of batches. Keeps: what a leader keeps of a stream stays true through both. Steps, Marks, Idles: a step of a
+-- worker, and the mark of an idle one; Requests: where a worker of the code stands; NoLeaders: a node that is no open
+-- leader. LeadersTurns: the leader is taken out of its node, works, and is put back.
 pub mod Acceptors
 pub mod Advancing
 pub mod Answering
@@ -17,18 +19,24 @@ pub mod Elections
 pub mod Flushes
 pub mod Good
 pub mod Histories
+pub mod Idles
 pub mod Items
 pub mod Keeps
 pub mod Leaders
+pub mod LeadersTurns
 pub mod Logs
+pub mod Marks
+pub mod NoLeaders
 pub mod Opened
 pub mod Opens
 pub mod Outer
 pub mod Promises
 pub mod Proposals
 pub mod Ranges
+pub mod Requests
 pub mod Sends
 pub mod Shown
+pub mod Steps
 pub mod Streams
 pub mod Taking
 pub mod Turns

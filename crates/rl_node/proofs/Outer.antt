@@ -32,6 +32,10 @@ with_answer x f = record { node = x; failed = f }
 well_by : (x : Standing) → x.failed ≡ None → x ≡ well x.node
 well_by x e = ap (λ f. with_answer x.node f) e
 
+-- a node that repeats no answer
+pub stands_well : (setup : Setup) (a : ℕ) (n : Node) (x : Standing) → None ≡ failed_in n.phase → Stands setup a n x → Stands setup a n (well x.node)
+stands_well setup a n x none s = subst (Stands setup a n) (well_by x (failed_is setup a n x s ∙ sym none)) s
+
 -- a node that repeats an answer
 abbrev failing : NodeState → NodeError → Standing
 failing x f = record { node = x; failed = Some f }

@@ -6,6 +6,7 @@ mod acking;
 pub mod answer;
 mod bad;
 mod electing;
+mod idling;
 mod laws;
 pub mod node;
 mod opening;
@@ -17,6 +18,7 @@ mod sending;
 pub mod setup;
 mod stepping;
 mod viewing;
+mod working;
 mod wrong;
 
 pub use rl_nodes::node_error::NodeError;
