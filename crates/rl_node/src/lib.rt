@@ -9,6 +9,7 @@ mod counting;
 mod electing;
 mod handling;
 mod knowing;
+mod idling;
 mod laws;
 pub mod node;
 mod opening;
@@ -22,6 +23,7 @@ mod sending;
 pub mod setup;
 mod stepping;
 mod viewing;
+mod working;
 mod wrong;
 
 pub use rl_nodes::node_error::NodeError;
