@@ -4,7 +4,8 @@
 --     Beginnings: nodes that begin, crash, return and are lost. Shown: how a node is shown. Promises, Elections, Sends:
 -- what it promises and sends. Good, Acceptors, Answering, Taking: a message that is not bad, what the acceptor keeps
 -- after it, and the node's answer. Learning, Replays: what it knows to be chosen, and what its replica plays.
--- Promising, Recoveries: a candidate counts a promise and recovers. Receiving: any message.
+-- Promising, Recoveries: a candidate counts a promise and recovers. Receiving: any message. Wrongs, Bads: which messages
+-- are bad; Decoded, Entries: what batches of bytes have in any case; Items: elements of lists by their places.
 --     A leader. Turns: a worker's turn is one of the core. Proposals, Flushes: what is pending is proposed; Ranges: in
 -- the range of batches. Keeps: what a leader keeps of a stream stays true through both. Steps, Marks, Idles: a step of a
 -- worker, and the mark of an idle one; Requests: where a worker of the code stands; NoLeaders: a node that is no open
