@@ -6,11 +6,13 @@ pub mod Counting
 pub mod Doing
 pub mod Fits
 pub mod Good
+pub mod Idling
 pub mod Inner
 pub mod Keeping
 pub mod Knowing
 pub mod Leading
 pub mod Leads
+pub mod Moves
 pub mod Named
 pub mod Opening
 pub mod Outs
@@ -21,9 +23,11 @@ pub mod Recovering
 pub mod Refusing
 pub mod Replaying
 pub mod Sending
+pub mod Seqs
 pub mod SetupOf
 pub mod Showing
 pub mod Standing
 pub mod Stepping
 pub mod Taken
+pub mod Taking
 pub mod Wrong

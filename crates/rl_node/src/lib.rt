@@ -8,6 +8,7 @@ mod bad;
 mod counting;
 mod electing;
 mod handling;
+mod idling;
 mod knowing;
 mod laws;
 pub mod node;
@@ -22,6 +23,7 @@ mod sending;
 pub mod setup;
 mod stepping;
 mod viewing;
+mod working;
 mod wrong;
 
 pub use rl_nodes::node_error::NodeError;
