@@ -1,7 +1,7 @@
 -- Items by seq, and workers in their places.
-use Rattle.std.proofs.Common.{◌≡◌, ℕ, zero, suc, ◌-◌, ◌*◌, ◌^◌, ◌<◌, ◌≤◌, List, [], ◌∷◌, ◌++◌, length, get_or, slice_get, nat_lt, true, false, Some, refl, sym, ap, subst, arith}
+use Rattle.std.proofs.Common.{◌≡◌, ℕ, zero, suc, ◌-◌, ◌*◌, ◌^◌, ◌<◌, ◌≤◌, List, [], ◌∷◌, ◌++◌, length, get_or, slice_get, true, false, Some, refl, sym, ap, subst, arith}
 use Rattle.std.specs.List.{insert}
-use Rattle.std.proofs.lemmas.Bool.Decides.{nat_tests}
+use Rattle.rl_base.proofs.Tests.{lt_true, lt_false}
 use Rattle.rl_txn.specs.declared.item.Item.{Item}
 use Rattle.rl_worker.specs.Items.{CoreItem, insert_by_stamp}
 use Rattle.rl_worker.specs.Opening.{item_seen, items_seen}
@@ -65,12 +65,6 @@ joins_by_seq x (y ∷ ys) zero s is =
     ((omega (arith, first), from_lower x.stamp.seq y.stamp.seq ys (omega (arith, first)) s.0), s)
 joins_by_seq x (y ∷ ys) (suc at) s is =
     (from_insert y.stamp.seq ys at x s.0 (is_under x y ys at is s.0), joins_by_seq x ys at s.1 (is_later x y ys at is))
-
-lt_true : (a b : ℕ) → a < b → nat_lt a b ≡ true
-lt_true a b h = grind (arith, nat_tests)
-
-lt_false : (a b : ℕ) → b ≤ a → nat_lt a b ≡ false
-lt_false a b h = grind (arith, nat_tests)
 
 -- an item that joins by seq, as it is seen, joins the core's by stamp
 pub joins_core : (x : CoreItem) (ys : List CoreItem) (at : ℕ) → IsInFirst x → IsBySeq (items_seen 1 ys) → IsAt (item_seen 1 x) (items_seen 1 ys) at → insert (items_seen 1 ys) at (item_seen 1 x) ≡ items_seen 1 (insert_by_stamp x ys)

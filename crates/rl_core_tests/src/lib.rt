@@ -5,3 +5,5 @@
 mod acts;
 #[cfg(test)]
 mod leader;
+#[cfg(test)]
+mod openings;

@@ -16,7 +16,7 @@ use Rattle.rl_base.proofs.Members.{In, all_in, in_map, map_in}
 use Rattle.rl_families.proofs.Logs.{stamps_along-append}
 use Rattle.rl_families.proofs.Rising.{Rises, rises_from, last_seq_among_up, settled}
 use Rattle.rl_families.proofs.Sorting.{lower, Sorted, Least, in_order_sorted, in_order-filter}
-use Rattle.rl_families.proofs.Nesting.{least_le, least_from, inside_at, top_grows, last_grows, history_cut}
+use Rattle.rl_families.proofs.Nesting.{least_le, least_from, inside_at, top_grows, last_grows, history_cut, up_to_down}
 use Rattle.rl_cut.specs.Kept.{least_epoch, least_seq, counts_now, mark_of, AreSettled}
 
 -- ---- lists ----
@@ -47,13 +47,6 @@ filter_none f [] h = refl
 filter_none f (x ∷ xs) h = rw (h x (inl refl)) (filter_none f xs (λ y i. h y (inr i)))
 
 -- ---- watermarks ----
--- a stamp that is not above one up to a watermark is up to it
-pub up_to_down : (mark : ℕ × ℕ) (s t : Stamp) → is_below t s ≡ false → is_up_to_watermark mark t ≡ true → is_up_to_watermark mark s ≡ true
-up_to_down mark s t a b = go mark.0 mark.1 s.epoch s.seq t.epoch t.seq a b
-  where
-    go : (e q a b c d : ℕ) → (nat_lt c a || ((c == a) && nat_lt d b)) ≡ false → (nat_lt c e || ((c == e) && nat_le d q)) ≡ true → (nat_lt a e || ((a == e) && nat_le b q)) ≡ true
-    go e q a b c d h k = grind (arith, nat_tests)
-
 -- the history of a larger family is that of the smaller one, and then what counts now
 pub history_grows : (family larger : List (List Batch)) → IsInside family larger → AllRise larger
     → history larger ≡ history family ++ in_order (filter (λ x. is_counted larger x.stamp && not (is_up_to_watermark (watermark family) x.stamp)) (flat_map items_along larger))

@@ -23,7 +23,8 @@ use Rattle.rl_families.proofs.Rising.{Rises, rises_from, rises_front, rises_back
 use Rattle.rl_families.proofs.Sorting.{Sorted, Least}
 use Rattle.rl_cut.specs.Kept.{AreByEpoch, AreLastOf, least_epoch, least_seq, counts_now, mark_of, AreSettled, AreUpTo, FitsLogs, Keeps, HasGrown}
 use Rattle.rl_cut.proofs.LastStamps.{last_same, lasts_trans, lasts_append, least_epoch_is, least_seq_is, mark_is}
-use Rattle.rl_cut.proofs.Counting.{filter_none, up_to_down, history_grows, top_rises, settled_stays, mark_grows, now_low, not_again, now_tells}
+use Rattle.rl_families.proofs.Nesting.{up_to_down}
+use Rattle.rl_cut.proofs.Counting.{filter_none, history_grows, top_rises, settled_stays, mark_grows, now_low, not_again, now_tells}
 
 filter-append : (f : Item → Bool) (xs ys : List Item) → filter f (xs ++ ys) ≡ filter f xs ++ filter f ys
 filter-append f [] ys = refl

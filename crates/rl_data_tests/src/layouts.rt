@@ -10,20 +10,16 @@ fn numbers_table_by_table(rt: HostRuntime) -> Result<(), Fail> {
     schema.declare(rt.alloc(), "a", 3, 1)?;
     schema.declare(rt.alloc(), "b", 300, 4)?;
     let layout = Layout::new(rt.alloc(), &schema)?;
-    assert_eq!(rt; layout.count(), 303);
-    let all = Records { first: 0, count: 3 };
-    assert_eq!(rt; layout.range(0, 0, 3), Ok(all));
-    assert_eq!(rt; layout.range(0, 1, 3), Err(KeyOutOfRange { size: 3 }));
     let last = Records {
         first: 302,
         count: 1,
     };
+    assert_eq!(rt; layout.count(), 303);
     assert_eq!(rt; layout.range(1, 299, 1), Ok(last));
     assert_eq!(rt;
         layout.range(1, u64::MAX, 1),
         Err(KeyOutOfRange { size: 300 })
     );
-    assert!(rt; layout.place(2) == (0, 2));
     assert!(rt; layout.place(3) == (1, 0));
     Ok(())
 }

@@ -259,7 +259,7 @@ history_cut family larger h a =
     by_cases false false c p q z = refl
 
 -- a stamp that is not above one up to a watermark is up to it
-up_to_down : (mark : ℕ × ℕ) (s t : Stamp) → is_below t s ≡ false → is_up_to_watermark mark t ≡ true → is_up_to_watermark mark s ≡ true
+pub up_to_down : (mark : ℕ × ℕ) (s t : Stamp) → is_below t s ≡ false → is_up_to_watermark mark t ≡ true → is_up_to_watermark mark s ≡ true
 up_to_down mark s t a b = go mark.0 mark.1 s.epoch s.seq t.epoch t.seq a b
   where
     go : (e q a b c d : ℕ) → (nat_lt c a || ((c == a) && nat_lt d b)) ≡ false → (nat_lt c e || ((c == e) && nat_le d q)) ≡ true → (nat_lt a e || ((a == e) && nat_le b q)) ≡ true

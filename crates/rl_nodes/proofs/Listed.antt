@@ -21,10 +21,10 @@ use Rattle.rl_txn.specs.declared.eval.Wants as eval
 use Rattle.rl_txn.specs.declared.eval.Wants.TheVariants.{Read as WantsRead, Ended as WantsEnded}
 use Rattle.rl_txn.specs.Eval.{places_read, is_new, read_by, rows_from, rows_of, wants}
 use Rattle.rl_txn.specs.Run.{Overlay, Progress, value_of, with_reg, with_row, holds, row_seen, column_of, scan_sum, only_if, op_done, passes, ops_done, beginning, write_of, writes_of, run}
-use Rattle.rl_txn.specs.Serial.{put_or_remove, after_writes, rows_after}
+use Rattle.rl_txn.specs.Serial.{put_or_remove, after_writes, rows_after, request}
 use Rattle.rl_worker.specs.Acts.{opening_core}
 use Rattle.std.specs.Prelude.{slice_index}
-use Rattle.rl_worker.specs.Opening.{overlay_of, install_of, outcome_of, outcome, request, asks, setting_of, at_rest}
+use Rattle.rl_worker.specs.Opening.{overlay_of, install_of, outcome_of, outcome, asks, setting_of, at_rest}
 use Rattle.rl_worker.specs.Phases.{Read, Rec, Outcome, Wants, Ends, Setting}
 use Rattle.rl_nodes.specs.Openings.{Program, Work, work_of, next_request}
 use Rattle.rl_worker.specs.Stamping.{opening_stamps}

@@ -17,10 +17,9 @@ use Rattle.rl_families.specs.Logs.{IsRising}
 use Rattle.rl_replay.specs.Replay.{HaveSameStamps}
 use Rattle.rl_batch.specs.Encoding.{batch_bytes}
 use Rattle.rl_election.specs.World.{Envelope, StreamWorld, Up, Down}
-use Rattle.rl_election.specs.StreamEvents.{StreamEvent}
+use Rattle.rl_election.specs.StreamEvents.{StreamEvent, Elect, Crash, Return, Lose, Propose, after_stream_event, receives as stream_receives, streams_after}
 use Rattle.rl_election.specs.Chosen.{IsLongestChosen}
 use Rattle.rl_election.specs.Laws.{SomeLog}
-use Rattle.rl_election.specs.StreamEvents as streams
 use Rattle.rl_msg.specs.declared.msg.Msg.{Msg}
 use Rattle.rl_nodes.specs.Answers.{Did, quiet}
 use Rattle.rl_nodes.specs.Elections.{elects, crashed, returned, lost}
@@ -85,7 +84,7 @@ pub record Taken (setup : Setup) : Type 0 where
 -- a node that takes a message does what the same node of the streams does, where it receives that message
 abbrev pub NodesTakeAsStreams : Type 0
 NodesTakeAsStreams = (setup : Setup) (t : Taken setup)
-    → streams.receives (cluster_of setup) t.streams t.node t.envelope.from t.envelope.message
+    → stream_receives (cluster_of setup) t.streams t.node t.envelope.from t.envelope.message
     ≡ streams_after_doing t.streams t.node t.did
 
 -- a node of a world that is one of the streams
@@ -99,24 +98,24 @@ pub record Placed (setup : Setup) : Type 0 where
 -- after an event of the streams they are as after the node did something
 abbrev pub Follows : (setup : Setup) → Placed setup → StreamEvent → Did → Type 0
 Follows setup t e did =
-    streams.after_stream_event (cluster_of setup) t.streams e ≡ streams_after_doing t.streams t.node did
+    after_stream_event (cluster_of setup) t.streams e ≡ streams_after_doing t.streams t.node did
 
 -- an election, a crash, a return and a loss of a node are those of the streams
 pub record NodesChangeAsStreams : Type 0 where
   pub elects : (setup : Setup) (t : Placed setup) (did : Did) → t.state.state ≡ Up → elects setup t.node t.state ≡ Ok did
-      → Follows setup t (streams.Elect t.node (next_epoch_of t.state.acceptor.promised t.node setup.nodes)) did
+      → Follows setup t (Elect t.node (next_epoch_of t.state.acceptor.promised t.node setup.nodes)) did
   pub crashes : (setup : Setup) (t : Placed setup) → t.state.state ≡ Up
-      → Follows setup t (streams.Crash t.node) (quiet (crashed setup t.state))
+      → Follows setup t (Crash t.node) (quiet (crashed setup t.state))
   pub returns : (setup : Setup) (t : Placed setup) → t.state.state ≡ Down
-      → Follows setup t (streams.Return t.node) (quiet (returned t.state))
-  pub loses : (setup : Setup) (t : Placed setup) → Follows setup t (streams.Lose t.node) (quiet (lost setup t.state))
+      → Follows setup t (Return t.node) (quiet (returned t.state))
+  pub loses : (setup : Setup) (t : Placed setup) → Follows setup t (Lose t.node) (quiet (lost setup t.state))
 
 -- a batch that an open leader proposes is a proposal of the streams
 abbrev pub LeadersProposeAsStreams : Type 0
 LeadersProposeAsStreams = (setup : Setup) (t : Placed setup) (lead : Lead) (s : ℕ) (batch : Batch) (did : Did)
     → t.state.state ≡ Up → t.state.part ≡ Leads lead → HasBegun lead s → IsTrue (is_node setup.workers s)
     → proposes setup t.node t.state lead s batch ≡ Ok did
-    → Follows setup t (streams.Propose t.node s (batch_bytes batch)) did
+    → Follows setup t (Propose t.node s (batch_bytes batch)) did
 
 -- ---- whole runs ----
 
@@ -131,7 +130,7 @@ pub record AreSame (setup : Setup) (w : World) (streams : StreamWorld) : Type 0 
 abbrev pub RunsAreStreams : Type 0
 RunsAreStreams = (setup : Setup) (events : List Event) (w : World) → SetupFits setup
     → All (EventFits setup.nodes setup.workers) events → world_after setup events ≡ Ok w
-    → (es : List StreamEvent) × AreSame setup w (streams.streams_after (cluster_of setup) es)
+    → (es : List StreamEvent) × AreSame setup w (streams_after (cluster_of setup) es)
 
 -- on each stream of each run some log is the longest that was chosen
 abbrev pub RunsHaveChosen : Type 0

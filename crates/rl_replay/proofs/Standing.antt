@@ -5,7 +5,7 @@ use Rattle.std.proofs.lemmas.List.{length-set, get_or-set_same, get_or-set_other
 use Rattle.rl_base.specs.Lists.{IsPrefix}
 use Rattle.rl_txn.specs.declared.batch.Batch.{Batch}
 use Rattle.rl_replay.specs.Entries.{Entry, entries, entries_of, entry_at}
-use Rattle.rl_replay.specs.Cursors.{start, next_place, StandsBehind, IsEntryAt}
+use Rattle.rl_replay.specs.Cursors.{start, next_cursor, StandsBehind, IsEntryAt}
 use Rattle.rl_replay.specs.Laws.{LongerLogsBegin}
 use Rattle.rl_replay.specs.Replay.{Replaying, after_answer, entries_played, HasFailed}
 use Rattle.rl_replay.specs.Standing.{StandingReplica, BeginsWithPlayed}
@@ -21,8 +21,8 @@ use Rattle.rl_replay.proofs.Answering.{still}
 stands_on : (n : ℕ) (log more : List Batch) (c : Cursor) → IsPrefix log more → StandsBehind n log c → StandsBehind n more c
 stands_on n log more c p h = record {
   within = subst (λ z. c.batch ≤ length z) p.1 (omega (arith, length-append log p.0, h.within));
-  counts = ap (λ z. length (entries (take c.batch z)) + c.place) (sym p.1)
-      ∙ (let w = h.within in ap (λ z. length (entries z) + c.place) (take-append-le c.batch log p.0 w)) ∙ h.counts;
+  counts = ap (λ z. length (entries (take c.batch z)) + c.index) (sym p.1)
+      ∙ (let w = h.within in ap (λ z. length (entries z) + c.index) (take-append-le c.batch log p.0 w)) ∙ h.counts;
 }
 
 pub longer_logs_begin : LongerLogsBegin
@@ -63,10 +63,10 @@ begins_other r t s c o log p q n lo ls h =
     apart a b n p q e = n (omega arith)
 
 -- the entry at a cursor, by its number, and the cursor behind it
-pub found_entry : (log : List Batch) (n : ℕ) (b : Batch) (c : Cursor) → IsEntryAt log n b c → slice_get (entries_of b) c.place ≡ entry_at log n
-found_entry log n b c h = entry_here log c.batch b c.place h.has h.index ∙ ap (slice_get (entries log)) (let k = h.counts in omega arith)
+pub found_entry : (log : List Batch) (n : ℕ) (b : Batch) (c : Cursor) → IsEntryAt log n b c → slice_get (entries_of b) c.index ≡ entry_at log n
+found_entry log n b c h = entry_here log c.batch b c.index h.has h.index ∙ ap (slice_get (entries log)) (let k = h.counts in omega arith)
 
-pub behind_found : (log : List Batch) (n : ℕ) (b : Batch) (c : Cursor) → c.batch ≤ length log → IsEntryAt log n b c → StandsBehind (n + 1) log (next_place c)
+pub behind_found : (log : List Batch) (n : ℕ) (b : Batch) (c : Cursor) → c.batch ≤ length log → IsEntryAt log n b c → StandsBehind (n + 1) log (next_cursor c)
 behind_found log n b c w h = record { within = w; counts = (let k = h.counts in omega arith) }
 
 -- ---- after a play ----

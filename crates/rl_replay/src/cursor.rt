@@ -6,31 +6,31 @@ ghost use Rattle.rl_replay.specs.Cursors.{IsEntryAt, FitsCursor};
 
 use rl_txn::batch::Batch;
 
-/// A place in a log: behind so many batches, and behind so many entries that follow.
+/// Where an entry stands in a log: in which batch, and where in that batch; both are counted from 0.
 #[derive(Clone, Copy, Debug, PartialEq, Eq)]
 pub struct Cursor {
     pub batch: usize,
-    pub place: usize,
+    pub index: usize,
 }
 
 /// The batch of the entry at a cursor, and the cursor with the entry's index in that batch; none
 /// past the last entry.
 pub fn find(log: &[Batch], at: Cursor) -> Option<(&Batch, Cursor)>
     requires { at.batch ≤ length log.now }
-    ensures found { let n = length (entries (take at.batch log.now)) + at.place in
+    ensures found { let n = length (entries (take at.batch log.now)) + at.index in
         MatchOption result (entry_at log.now n ≡ None) (λ found. IsEntryAt log.now n found.0.now found.1) }
     ensures onward { (n : ℕ) → FitsCursor n at → IfSome result (λ found. FitsCursor n found.1) }
-    ensures room { IfSome result (λ found. found.1.place + 1 < 2 ^ 64) }
+    ensures room { IfSome result (λ found. found.1.index + 1 < 2 ^ 64) }
 {
     let mut cursor = at;
     for batch in &log[at.batch..] {
         let len = entries_in(batch);
-        if cursor.place < len {
+        if cursor.index < len {
             return Some((batch, cursor));
         }
         cursor = Cursor {
             batch: cursor.batch + 1,
-            place: cursor.place - len,
+            index: cursor.index - len,
         };
     }
     None

@@ -10,7 +10,7 @@ ghost use Rattle.rl_replay.specs.Replay.{newest_writes, HasStamp, next_entry, it
 ghost use Rattle.rl_replay.specs.Standing.{BeginsWithPlayed};
 ghost use Rattle.rl_replay.specs.Steps.{gone_on, standing_after};
 ghost use Rattle.rl_replay.specs.Entries.{entries_of, item_entry, mark_entry};
-ghost use Rattle.rl_replay.specs.Cursors.{next_place, FitsCursor, IsEntryAt};
+ghost use Rattle.rl_replay.specs.Cursors.{next_cursor, FitsCursor, IsEntryAt};
 
 use crate::cursor::{Cursor, find};
 use crate::newest::{Newest, apply_newest};
@@ -84,7 +84,7 @@ impl Replica {
         let mut cursors = Vec::with_capacity(alloc, streams as usize)?;
         for _stream in 0..streams {
             played.push(0)?;
-            cursors.push(Cursor { batch: 0, place: 0 })?;
+            cursors.push(Cursor { batch: 0, index: 0 })?;
         }
         Ok(Replica {
             map: opening.copy()?,
@@ -116,7 +116,7 @@ impl Replica {
     {
         let known = first_batches(log, known);
         let (batch, at) = self.next(stream, known)?;
-        Some(epoch_at(batch, at.place))
+        Some(epoch_at(batch, at.index))
     }
 
     /// The batch of the next entry of a stream, and where the entry stands; none where the known
@@ -130,7 +130,7 @@ impl Replica {
             (λ found. IsEntryAt known.now n found.0.now found.1) }
         ensures fits { let n = slice_index self.now.replaying.played (stream - 1) in
             IfSome result (λ found. FitsCursor n found.1) }
-        ensures room { IfSome result (λ found. found.1.place + 1 < 2 ^ 64) }
+        ensures room { IfSome result (λ found. found.1.index + 1 < 2 ^ 64) }
     {
         let at = self.cursors[stream as usize - 1];
         find(known, at)
@@ -194,20 +194,20 @@ impl Replica {
         requires first_stream { 1 ≤ stream }
         requires last_stream { stream ≤ length self.old.replaying.played }
         requires fits { FitsCursor (slice_index self.old.replaying.played (stream - 1)) at }
-        requires room { at.place + 1 < 2 ^ 64 }
+        requires room { at.index + 1 < 2 ^ 64 }
         requires working { self.old.replaying.failed ≡ false }
-        requires index { at.place < length (entries_of batch.now) }
-        ensures answer { IfOk result (λ p. p ≡ play_answer (slice_get (entries_of batch.now) at.place) bound watermark) }
-        ensures state { let next = slice_get (entries_of batch.now) at.place in
-            IfOk result (λ p. self.new ≡ standing_after self.old stream next p (next_place at)) }
-        ensures err { let next = slice_get (entries_of batch.now) at.place in
+        requires index { at.index < length (entries_of batch.now) }
+        ensures answer { IfOk result (λ p. p ≡ play_answer (slice_get (entries_of batch.now) at.index) bound watermark) }
+        ensures state { let next = slice_get (entries_of batch.now) at.index in
+            IfOk result (λ p. self.new ≡ standing_after self.old stream next p (next_cursor at)) }
+        ensures err { let next = slice_get (entries_of batch.now) at.index in
             OnErr result (HasFailed (play_answer next bound watermark) next
             self.old.replaying self.new.replaying) }
         ensures stands { OnErr result (self.new.cursors ≡ self.old.cursors) }
     {
         match batch {
             Batch::Items(items) => {
-                self.play_item(alloc, stream, items.get(at.place), at, bound, watermark)
+                self.play_item(alloc, stream, items.get(at.index), at, bound, watermark)
             }
             Batch::Idle(stamp) => Ok(self.skip(stream, at, *stamp)),
             Batch::Opened(stamp) => Ok(self.skip(stream, at, *stamp)),
@@ -226,11 +226,11 @@ impl Replica {
         requires first_stream { 1 ≤ stream }
         requires last_stream { stream ≤ length self.old.replaying.played }
         requires fits { FitsCursor (slice_index self.old.replaying.played (stream - 1)) at }
-        requires room { at.place + 1 < 2 ^ 64 }
+        requires room { at.index + 1 < 2 ^ 64 }
         requires working { self.old.replaying.failed ≡ false }
         ensures answer { IfOk result (λ p. p ≡ item_answer item.now.stamp bound watermark) }
         ensures state { let next = Some (item_entry item.now) in
-            IfOk result (λ p. self.new ≡ standing_after self.old stream next p (next_place at)) }
+            IfOk result (λ p. self.new ≡ standing_after self.old stream next p (next_cursor at)) }
         ensures err { let next = Some (item_entry item.now) in
             OnErr result (HasFailed (item_answer item.now.stamp bound watermark) next
             self.old.replaying self.new.replaying) }
@@ -255,12 +255,12 @@ impl Replica {
         requires first_stream { 1 ≤ stream }
         requires last_stream { stream ≤ length self.old.replaying.played }
         requires fits { FitsCursor (slice_index self.old.replaying.played (stream - 1)) at }
-        requires room { at.place + 1 < 2 ^ 64 }
+        requires room { at.index + 1 < 2 ^ 64 }
         requires working { self.old.replaying.failed ≡ false }
         ensures answer { IfOk result (λ p. p ≡ Played.Applied item.now.stamp) }
         ensures state { let next = Some (item_entry item.now) in
             OnOk result (self.new
-            ≡ standing_after self.old stream next (Played.Applied item.now.stamp) (next_place at)) }
+            ≡ standing_after self.old stream next (Played.Applied item.now.stamp) (next_cursor at)) }
         ensures err { let next = Some (item_entry item.now) in
             OnErr result (HasFailed (Played.Applied item.now.stamp) next
             self.old.replaying self.new.replaying) }
@@ -301,9 +301,9 @@ impl Replica {
         requires first_stream { 1 ≤ stream }
         requires last_stream { stream ≤ length self.old.replaying.played }
         requires fits { FitsCursor (slice_index self.old.replaying.played (stream - 1)) at }
-        requires room { at.place + 1 < 2 ^ 64 }
+        requires room { at.index + 1 < 2 ^ 64 }
         ensures answer { result ≡ Played.Passed stamp }
-        ensures state { self.new ≡ gone_on self.old stream (next_place at) }
+        ensures state { self.new ≡ gone_on self.old stream (next_cursor at) }
     {
         self.advance(stream, at);
         Played::Passed { stamp }
@@ -314,14 +314,14 @@ impl Replica {
         requires first_stream { 1 ≤ stream }
         requires last_stream { stream ≤ length self.old.replaying.played }
         requires fits { FitsCursor (slice_index self.old.replaying.played (stream - 1)) at }
-        requires room { at.place + 1 < 2 ^ 64 }
-        ensures { self.new ≡ gone_on self.old stream (next_place at) }
+        requires room { at.index + 1 < 2 ^ 64 }
+        ensures { self.new ≡ gone_on self.old stream (next_cursor at) }
     {
         let stream = stream as usize - 1;
         self.played[stream] += 1;
         self.cursors[stream] = Cursor {
             batch: at.batch,
-            place: at.place + 1,
+            index: at.index + 1,
         };
     }
 

@@ -1,11 +1,8 @@
 -- The laws of the crates below on which the proof stands, as their functions ensure them.
 use Rattle.rl_batch.specs.Laws.{BatchesReadBack, EncodingsAreShort}
 use Rattle.rl_election.specs.Laws.{InitialLogsHaveOrigins, OwnersLead, CandidatesStandFirst}
-use Rattle.rl_txn.specs.Laws.{RowsGoOnFitting}
-use Rattle.rl_txn.specs.Words.{SerialItemsHaveWords, RowsKeepWords}
-use Rattle.rl_worker.specs.Laws.{DecidesSerially, ItemsFollowOn, CausesAreTrue, StampsRise}
-use Rattle.rl_worker.specs.OneTurn.{StepsAreOne, StampsStayInRange, ItemsStayInRange, ItemsEndInOrder}
-use Rattle.rl_worker.specs.Stamping.{OpeningStampsAreEarly}
+use Rattle.rl_txn.specs.Laws.{RowsGoOnFitting, SerialItemsHaveWords, RowsKeepWords}
+use Rattle.rl_worker.specs.Laws.{DecidesSerially, ItemsFollowOn, CausesAreTrue, StampsRise, StepsAreOne, StampsStayInRange, ItemsStayInRange, ItemsEndInOrder, OpeningStampsAreEarly}
 
 pub record Below : Type 0 where
   pub read_back : BatchesReadBack

@@ -12,8 +12,8 @@ use Rattle.rl_worker.specs.Phases.{Rest, Setting}
 use Rattle.rl_worker.specs.Acts.{CoreRefusal, Core, Turn, Step, Idle, phase_of, resting, is_done, may, micro, settle, begin, step, idle, turn, after_turns}
 use Rattle.rl_worker.specs.Opening.{OpenLeader, CoreFits, core_after, setting_of, item_seen, items_seen, opening_recs, at_rest}
 use Rattle.rl_worker.specs.Acts as acts
-use Rattle.rl_worker.specs.Laws.{AllUnder, IsFalling, stamps_by}
-use Rattle.rl_worker.specs.OneTurn.{StepsAreOne, MadeBetween, IsInRange, items_by, ended_by, installing, newly_ended, newly_refused}
+use Rattle.rl_worker.specs.Laws.{AllUnder, IsFalling, stamps_by, StepsAreOne}
+use Rattle.rl_worker.specs.OneTurn.{MadeBetween, IsInRange, items_by, ended_by, installing, newly_ended, newly_refused}
 use Rattle.rl_worker.specs.Workers.{with_item, stamp_made}
 use Rattle.rl_safe.proofs.Below.{Below}
 

@@ -29,6 +29,35 @@ enum Call {
     Accept { epoch: u32, slot: u8 },
 }
 
+/// What comes to an acceptor, and what it answers.
+const CALLS: [(Call, Result<u32, Refused>); 10] = [
+    (Call::Prepare { epoch: 5 }, Ok(0)),
+    (
+        Call::Prepare { epoch: 4 },
+        Err(Refused::Promised { promised: 5 }),
+    ),
+    (
+        Call::Accept { epoch: 4, slot: 0 },
+        Err(Refused::Promised { promised: 5 }),
+    ),
+    (
+        Call::Accept { epoch: 5, slot: 0 },
+        Err(Refused::OtherBallot { ballot: 0 }),
+    ),
+    (Call::Sync { epoch: 5, byte: 1 }, Ok(1)),
+    (
+        Call::Accept { epoch: 5, slot: 2 },
+        Err(Refused::OutOfOrder { len: 1 }),
+    ),
+    (Call::Accept { epoch: 5, slot: 1 }, Ok(2)),
+    (Call::Accept { epoch: 5, slot: 1 }, Ok(2)),
+    (
+        Call::Sync { epoch: 4, byte: 9 },
+        Err(Refused::Promised { promised: 5 }),
+    ),
+    (Call::Sync { epoch: 5, byte: 9 }, Ok(2)),
+];
+
 /// What an acceptor answers; a Prepare is answered by 0.
 fn answer(
     alloc: Global,
@@ -63,26 +92,7 @@ fn check_log(rt: &impl Abort, log: &Log, expected: &[u8]) {
 fn one_stream(rt: HostRuntime) -> Result<(), Fail> {
     let alloc = rt.alloc();
     let mut acceptor = Acceptor::new(alloc, 1)?;
-    let promised = Err(Refused::Promised { promised: 5 });
-    let calls = [
-        (Call::Prepare { epoch: 5 }, Ok(0)),
-        (Call::Prepare { epoch: 4 }, promised),
-        (Call::Accept { epoch: 4, slot: 0 }, promised),
-        (
-            Call::Accept { epoch: 5, slot: 0 },
-            Err(Refused::OtherBallot { ballot: 0 }),
-        ),
-        (Call::Sync { epoch: 5, byte: 1 }, Ok(1)),
-        (
-            Call::Accept { epoch: 5, slot: 2 },
-            Err(Refused::OutOfOrder { len: 1 }),
-        ),
-        (Call::Accept { epoch: 5, slot: 1 }, Ok(2)),
-        (Call::Accept { epoch: 5, slot: 1 }, Ok(2)),
-        (Call::Sync { epoch: 4, byte: 9 }, promised),
-        (Call::Sync { epoch: 5, byte: 9 }, Ok(2)),
-    ];
-    for (call, expected) in calls {
+    for (call, expected) in CALLS {
         assert_eq!(rt; answer(alloc, &mut acceptor, call)?, expected);
     }
     check_log(&rt, acceptor.log(1), &[1, 7]);

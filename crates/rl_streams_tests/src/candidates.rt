@@ -10,6 +10,21 @@ use std::alloc::Global;
 use std::process::Abort;
 use std::test::Fail;
 
+/// The promises of nodes of three: node, ballot, log, and how many have promised then.
+const TWO_OF_THREE: [(u32, u32, &[u8], u32); 4] = [
+    (1, 1, b"ab", 1),
+    (1, 1, b"ab", 1),
+    (3, 2, b"a", 2),
+    (1, 9, b"abc", 2),
+];
+
+/// And of four.
+const THREE_OF_FOUR: [(u32, u32, &[u8], u32); 3] = [
+    (1, 1, b"ab", 1),
+    (2, 2, b"ac", 2),
+    (3, 3, b"a", 3),
+];
+
 /// One stream's ballot.
 fn ballots(alloc: Global, ballot: u32) -> Result<Ballots, Memory>
     ensures { IfOk result (λ ballots. length ballots ≡ 1) }
@@ -76,13 +91,7 @@ fn the_longest_log_of_the_highest_ballot(rt: HostRuntime) -> Result<(), Fail> {
     let mut candidate = Candidate::start(alloc, 3, 3, 1, 2)?;
     let early = RecoverError::NotYet { have: 0, need: 2 };
     assert_eq!(rt; candidate.recover(alloc).err(), Some(early));
-    let promised: [(u32, u32, &[u8], u32); 4] = [
-        (1, 1, b"ab", 1),
-        (1, 1, b"ab", 1),
-        (3, 2, b"a", 2),
-        (1, 9, b"abc", 2),
-    ];
-    for (node, ballot, bytes, have) in promised {
+    for (node, ballot, bytes, have) in TWO_OF_THREE {
         promises(&rt, alloc, &mut candidate, node, ballot, bytes, have)?;
     }
     check_recovered(&rt, alloc, &candidate, b"a")
@@ -92,12 +101,7 @@ fn the_longest_log_of_the_highest_ballot(rt: HostRuntime) -> Result<(), Fail> {
 fn one_log_of_three_and_no_slot_of_another(rt: HostRuntime) -> Result<(), Fail> {
     let alloc = rt.alloc();
     let mut candidate = Candidate::start(alloc, 4, 3, 1, 3)?;
-    let promised: [(u32, u32, &[u8], u32); 3] = [
-        (1, 1, b"ab", 1),
-        (2, 2, b"ac", 2),
-        (3, 3, b"a", 3),
-    ];
-    for (node, ballot, bytes, have) in promised {
+    for (node, ballot, bytes, have) in THREE_OF_FOUR {
         promises(&rt, alloc, &mut candidate, node, ballot, bytes, have)?;
     }
     check_recovered(&rt, alloc, &candidate, b"a")

@@ -9,6 +9,16 @@ use rl_stream::propose_error::ProposeError;
 use std::alloc::Global;
 use std::test::Fail;
 
+/// Acks of a log of 3 slots by nodes, and how many slots are chosen then.
+const ACKS: [(u32, u32, u32); 5] = [(1, 3, 0), (3, 1, 1), (2, 2, 2), (2, 1, 2), (4, 3, 2)];
+
+/// What is sent again to a node that has acked so many slots of 2.
+const SENT_AGAIN: [(u32, Resend); 3] = [
+    (0, Resend::Sync),
+    (1, Resend::From { slot: 1 }),
+    (2, Resend::Nothing),
+];
+
 /// A log of so many empty batches.
 fn empty_batches(alloc: Global, count: u32) -> Result<Log, Memory>
     ensures { IfOk result (λ log. length log ≡ count) }
@@ -33,8 +43,7 @@ fn the_slots_end(rt: HostRuntime) -> Result<(), Fail> {
 fn acks_of_three_nodes(rt: HostRuntime) -> Result<(), Fail> {
     let alloc = rt.alloc();
     let mut stream = LeaderStream::new(alloc, 1, 3, 2, empty_batches(alloc, 3)?)?;
-    let acks = [(1, 3, 0), (3, 1, 1), (2, 2, 2), (2, 1, 2), (4, 3, 2)];
-    for (node, len, chosen) in acks {
+    for (node, len, chosen) in ACKS {
         assert!(rt; len as usize <= stream.log().len());
         assert_eq!(rt; stream.ack(node, len), chosen);
         assert_eq!(rt; stream.chosen_len(), chosen);
@@ -50,12 +59,7 @@ fn what_is_sent_again(rt: HostRuntime) -> Result<(), Fail> {
     let mut stream = LeaderStream::new(alloc, 1, 3, 2, empty_batches(alloc, 1)?)?;
     assert_eq!(rt; stream.propose(Bytes::new(alloc)), Ok(1));
     assert_eq!(rt; stream.initial_len(), 1);
-    let acks = [
-        (0, Resend::Sync),
-        (1, Resend::From { slot: 1 }),
-        (2, Resend::Nothing),
-    ];
-    for (len, expected) in acks {
+    for (len, expected) in SENT_AGAIN {
         assert!(rt; len as usize <= stream.log().len());
         let _ = stream.ack(2, len);
         assert_eq!(rt; stream.resend(2), expected);

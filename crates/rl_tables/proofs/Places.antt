@@ -2,19 +2,11 @@
 use Rattle.std.proofs.Common.{◌≡◌, ℕ, zero, suc, ◌+◌, ◌-◌, ◌<◌, ◌≤◌, List, [], ◌∷◌, length, sum, take, slice_index, nat_lt, Bool, true, false, if◌then◌else◌, refl, sym, ap, ◌∙◌, arith}
 use Rattle.std.proofs.lemmas.Bool.Decides.{nat_tests}
 use Rattle.std.proofs.lemmas.List.Sums.{sum_by-cons}
+use Rattle.rl_base.proofs.Tests.{lt_true, lt_false, true_lt}
 use Rattle.rl_tables.specs.Numbers.{record_of, place_from, place_of, IsPlace}
-
-lt_true : (a b : ℕ) → a < b → nat_lt a b ≡ true
-lt_true a b h = grind (arith, nat_tests)
-
-lt_false : (a b : ℕ) → b ≤ a → nat_lt a b ≡ false
-lt_false a b h = grind (arith, nat_tests)
 
 false_lt : (a b : ℕ) → nat_lt a b ≡ false → b ≤ a
 false_lt a b h = grind (arith, nat_tests)
-
-true_lt : (a b : ℕ) → nat_lt a b ≡ true → a < b
-true_lt a b h = grind (arith, nat_tests)
 
 -- the place of a key's record number
 placed : (t0 : ℕ) (sizes : List ℕ) (t k : ℕ) → t < length sizes → k < slice_index sizes t → place_from t0 sizes (record_of sizes t k) ≡ (t0 + t, k)

@@ -51,7 +51,7 @@ rising [] s = λ i j d a b. absurd (omega arith)
 rising (e ∷ es) s = AllPairs-cons IsPlaceBelow (write_of e) (map write_of es) (all_above e es (first_T _ _ s)) (rising es (second_T _ _ s))
 
 -- ---- an element of a number ----
-all_get : {A : Type 0} (P : A → Type 0) (xs : List A) (i : ℕ) (x : A) → slice_get xs i ≡ Some x → All P xs → P x
+pub all_get : {A : Type 0} (P : A → Type 0) (xs : List A) (i : ℕ) (x : A) → slice_get xs i ≡ Some x → All P xs → P x
 all_get P [] i x e h = absurd (cc)
 all_get P (y ∷ xs) zero x e h = let same : y ≡ x = cc in subst P same (h 0 y (omega arith))
 all_get P (y ∷ xs) (suc i) x e h = all_get P xs i x e (λ k d l. h (suc k) d (omega arith))

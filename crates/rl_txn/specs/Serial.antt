@@ -36,9 +36,13 @@ abbrev pub numbered : {X : Type 0} → List X → ℕ → Option X
 numbered xs zero = None
 numbered xs (suc n) = slice_get xs n
 
+-- the request of a worker and an index, both counted from 1
+abbrev pub request : List (List (List Op)) → (worker index : ℕ) → Option (List Op)
+request lists worker index = option_and_then (λ list. numbered list index) (numbered lists worker)
+
 -- the request that an item is of
 abbrev pub request_of : List (List (List Op)) → Item → Option (List Op)
-request_of lists item = option_and_then (λ list. numbered list item.index) (numbered lists item.worker)
+request_of lists item = request lists item.worker item.index
 
 -- each item is what its request does on the rows after the items before it
 abbrev pub Runs : List Table → List (List (List Op)) → Rows → List Item → Type 0

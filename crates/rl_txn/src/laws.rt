@@ -1,7 +1,6 @@
 //! Laws of runs: the contract of each function is the law.
 
-ghost use Rattle.rl_txn.specs.Laws.{AnswersFit, SerialItemsFit, RowsGoOnFitting, SerialRowsFit};
-ghost use Rattle.rl_txn.specs.Words.{AnswersHaveWords, SerialItemsHaveWords, RowsKeepWords};
+ghost use Rattle.rl_txn.specs.Laws.{AnswersFit, SerialItemsFit, RowsGoOnFitting, SerialRowsFit, AnswersHaveWords, SerialItemsHaveWords, RowsKeepWords};
 
 /// What a transaction answers and writes: at most an output and a write for each op, an op of its own
 /// where it is declined, and then no writes; and writes that fit the tables, by rising place. The

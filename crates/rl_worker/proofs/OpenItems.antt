@@ -2,6 +2,7 @@
 use Rattle.std.proofs.Common.{◌≡◌, ℕ, List, Bool, true, false, Option, Some, None, IsSomeAnd, if◌then◌else◌, refl, sym, ap, ◌∙◌}
 use Rattle.std.specs.Option.{option_map}
 use Rattle.rl_value.specs.Tables.{Table}
+use Rattle.rl_txn.specs.Serial.{request}
 use Rattle.rl_txn.specs.declared.op.Op.{Op}
 use Rattle.rl_worker.specs.declared.commit.Commit.{Commit}
 use Rattle.rl_worker.specs.declared.commit.Part.{Part}
@@ -11,7 +12,7 @@ use Rattle.rl_worker.specs.declared.worker.Stage.{Stage}
 use Rattle.rl_worker.specs.declared.worker.Stage.TheVariants as stage
 use Rattle.rl_worker.specs.declared.worker.Worker.{Worker}
 use Rattle.rl_worker.specs.Phases.{Wanting, Loading}
-use Rattle.rl_worker.specs.Opening.{request, item_seen}
+use Rattle.rl_worker.specs.Opening.{item_seen}
 use Rattle.rl_worker.specs.OneTurn.{installing}
 use Rattle.rl_worker.specs.Workers.{part_phase, reading_phase, stage_phase, phase_of_worker, epoch_of, is_storing, decided_at, decided_item, StageFits, is_resting, WorkerFits}
 use Rattle.rl_worker.proofs.CodeItems.{IsOf, seen_again}

@@ -14,7 +14,7 @@ use Rattle.rl_worker.specs.Workers.{RecordFits}
 use Rattle.rl_txn.specs.Fits.{RowHas}
 use Rattle.rl_worker.specs.Told.{found}
 use Rattle.rl_worker.proofs.Commits.{cells_length}
-use Rattle.rl_worker.proofs.Settings.{all_get}
+use Rattle.rl_txn.proofs.Answers.{all_get}
 use Rattle.rl_value.specs.Fits.{RowsFit}
 use Rattle.std.proofs.lemmas.Bool.{cases_lt}
 use Rattle.std.proofs.lemmas.List.{get_or_append_left}

@@ -5,12 +5,12 @@ use Rattle.std.specs.Option.{option_and_then}
 use Rattle.std.proofs.lemmas.List.Elements.{All-from_recursion, recursion_from_All}
 use Rattle.rl_base.proofs.Members.{In, contains_in}
 use Rattle.rl_txn.specs.Fits.{ItemFits, AnswerFits}
-use Rattle.rl_txn.specs.Serial.{IsSerial, numbered}
+use Rattle.rl_txn.specs.Serial.{IsSerial, numbered, request}
 use Rattle.rl_txn.specs.declared.op.Op.{Op}
 use Rattle.rl_txn.proofs.Answers.{items_fit}
 use Rattle.rl_worker.specs.Items.{CoreItem}
 use Rattle.rl_worker.specs.Acts.{Turn}
-use Rattle.rl_worker.specs.Opening.{OpenLeader, CoreFits, core_after, request, item_seen, items_seen}
+use Rattle.rl_worker.specs.Opening.{OpenLeader, CoreFits, core_after, item_seen, items_seen}
 use Rattle.rl_worker.specs.OneTurn.{MadeBetween, IsInRange, SeenInRange}
 use Rattle.rl_worker.specs.Workers.{stamp_made}
 use Rattle.rl_worker.proofs.Steps.{index_few}

@@ -14,7 +14,8 @@ use Rattle.rl_tables.proofs.Sizes.{sum_before, size_at}
 use Rattle.rl_txn.specs.Fits.{TxnFits, ListsFit}
 use Rattle.rl_txn.specs.Run.{run}
 use Rattle.rl_txn.specs.Eval.{rows_of, wants}
-use Rattle.rl_txn.specs.Serial.{numbered}
+use Rattle.rl_txn.specs.Serial.{numbered, request}
+use Rattle.rl_txn.proofs.Answers.{all_numbered}
 use Rattle.rl_txn.specs.declared.op.Op.{Op}
 use Rattle.rl_txn.specs.declared.eval.Wants as eval
 use Rattle.rl_txn.specs.declared.eval.Wants.TheVariants.{Read as WantsRead, Ended as WantsEnded}
@@ -23,7 +24,7 @@ use Rattle.rl_txn.specs.declared.write.Write.{Write}
 use Rattle.rl_worker.specs.Phases.{Answer, Read, Install, Rec, Wants, Ends, Rest}
 use Rattle.rl_worker.specs.Acts.{no_rec}
 use Rattle.rl_value.specs.Cells.{cells_of}
-use Rattle.rl_worker.specs.Opening.{overlay_of, install_of, outcome_of, outcome, request, asks, opening_rec, opening_recs, setting_of, first_of, at_rest, OpenLeader, CoreFits}
+use Rattle.rl_worker.specs.Opening.{overlay_of, install_of, outcome_of, outcome, asks, opening_rec, opening_recs, setting_of, first_of, at_rest, OpenLeader, CoreFits}
 use Rattle.rl_worker.proofs.OwnLaw.{Ground, Distinct, Widths, Lawful, AllFree, AllRest, Opens, RestAt, has}
 use Rattle.rl_worker.proofs.Writes.{RowFits, WriteFits, WritesFit, run_fits, run_distinct, place_of_write}
 
@@ -57,15 +58,6 @@ ending tables lists w q reads answer writes e = by_request (request lists w q) r
     by_request : (o : Option (List Op)) → request lists w q ≡ o → option_map_or (λ txn. outcome tables txn reads) o (Wants 0) ≡ Ends answer writes → Ending tables lists w q reads answer writes
     by_request None r e = absurd (cc)
     by_request (Some txn) r e = by_wants txn r (wants tables txn (overlay_of tables reads)) refl e
-
-pub all_get : {A : Type 0} (P : A → Type 0) (xs : List A) (i : ℕ) (x : A) → slice_get xs i ≡ Some x → All P xs → P x
-all_get P [] i x e h = absurd (cc)
-all_get P (y ∷ xs) zero x e h = let same : y ≡ x = cc in subst P same (h 0 y (omega arith))
-all_get P (y ∷ xs) (suc i) x e h = all_get P xs i x e (λ k d l. h (suc k) d (omega arith))
-
-pub all_numbered : {A : Type 0} (P : A → Type 0) (xs : List A) (i : ℕ) (x : A) → numbered xs i ≡ Some x → All P xs → P x
-all_numbered P xs zero x e h = absurd (cc)
-all_numbered P xs (suc i) x e h = all_get P xs i x e h
 
 pub request_fits : (tables : List Table) (lists : List (List (List Op))) → ListsFit tables lists → (w q : ℕ) (txn : List Op) → request lists w q ≡ Some txn → TxnFits tables txn
 request_fits tables lists fits w q txn e = go (numbered lists w) refl e

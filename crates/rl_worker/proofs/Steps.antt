@@ -6,7 +6,8 @@ use Rattle.std.proofs.lemmas.List.{set-set, set-get_or}
 use Rattle.std.proofs.lemmas.List.Sums.{sum_by-cons}
 use Rattle.rl_value.specs.Tables.{Table}
 use Rattle.rl_txn.specs.Fits.{ListsFit}
-use Rattle.rl_txn.specs.Serial.{numbered}
+use Rattle.rl_txn.specs.Serial.{numbered, request}
+use Rattle.rl_base.specs.declared.limit.TheConstants.{REQUESTS}
 use Rattle.rl_txn.specs.declared.op.Op.{Op}
 use Rattle.rl_worker.specs.declared.act.Act.TheVariants as act
 use Rattle.rl_worker.specs.declared.act.Moved as code
@@ -21,7 +22,7 @@ use Rattle.rl_worker.specs.declared.worker.Worker.{Worker}
 use Rattle.rl_worker.specs.Phases.{Read, Phase, Rest, Asking, Wanting, Loading, Locking, Validating, Storing, Refusing, Wants, Setting, asked}
 use Rattle.rl_worker.specs.Acts.{Core, resting, target, micro, settle, step, begin, is_done}
 use Rattle.rl_worker.proofs.Parts.{step_on}
-use Rattle.rl_worker.specs.Opening.{outcome, request, setting_of}
+use Rattle.rl_worker.specs.Opening.{outcome, setting_of}
 use Rattle.rl_worker.specs.Workers.{core_item, part_phase, reading_phase, stage_phase, phase_of_worker, StageFits, is_resting, decided_at, decided_item, act_of_step, Stands, stamp_next, either, newly_decided, with_item, WorkerFits, Steps}
 use Rattle.rl_worker.specs.Attempts.{IsAttemptOf, IsActed, Loaded, Confirmed, Committed, HasBegun, Began, Went}
 use Rattle.rl_worker.specs.Told.{found, act_of}
@@ -66,7 +67,7 @@ within_list (x ∷ xs) zero txn e = omega arith
 within_list (x ∷ xs) (suc n) txn e = omega (arith, within_list xs n txn e)
 
 -- a request that is there has an index in range
-pub index_few : (tables : List Table) (lists : List (List (List Op))) → ListsFit tables lists → (w q : ℕ) (txn : List Op) → request lists w q ≡ Some txn → q ≤ 8192
+pub index_few : (tables : List Table) (lists : List (List (List Op))) → ListsFit tables lists → (w q : ℕ) (txn : List Op) → request lists w q ≡ Some txn → q ≤ REQUESTS
 index_few tables lists fits zero q txn e = absurd (cc)
 index_few tables lists fits (suc w) q txn e = go (slice_get lists w) refl e
   where
@@ -74,7 +75,7 @@ index_few tables lists fits (suc w) q txn e = go (slice_get lists w) refl e
     in_list list zero f = absurd (cc)
     in_list list (suc k) f = omega (arith, within_list list k txn f)
 
-    go : (o : Option (List (List Op))) → slice_get lists w ≡ o → option_and_then (λ list. numbered list q) o ≡ Some txn → q ≤ 8192
+    go : (o : Option (List (List Op))) → slice_get lists w ≡ o → option_and_then (λ list. numbered list q) o ≡ Some txn → q ≤ REQUESTS
     go None f e = absurd (cc)
     go (Some list) f e = omega (arith, in_list list q e, long_list lists w list f, fits.requests)
 

@@ -1,13 +1,26 @@
 -- What is true of the workers of every open leader together.
-use Rattle.std.specs.Prelude.{◌≡◌, ◌≢◌, ℕ, ◌<◌, List, [], ◌∷◌, length, true, false, ◌==◌, nat_le, if◌then◌else◌}
+use Rattle.std.specs.Prelude.{◌≡◌, ◌≢◌, ℕ, ◌<◌, List, [], ◌∷◌, ◌++◌, length, sum, true, false, ◌==◌, nat_le, if◌then◌else◌, option_to_list, All}
 use Rattle.std.specs.List.{range_with_len}
+use Rattle.std.specs.Option.{option_map}
+use Rattle.rl_base.specs.Stamps.{packed}
+use Rattle.rl_value.specs.Tables.{Table}
+use Rattle.rl_tables.specs.Numbers.{sizes_of}
+use Rattle.rl_txn.specs.Fits.{ItemWritesFit}
 use Rattle.rl_txn.specs.Serial.{IsSerial, indexes_of}
+use Rattle.rl_txn.specs.declared.item.Item.{Item}
+use Rattle.rl_txn.specs.declared.op.Op.{Op}
 use Rattle.rl_worker.specs.Phases.{Phase, Validating, Setting, other}
 use Rattle.rl_worker.specs.Items.{CoreItem}
-use Rattle.rl_worker.specs.Acts.{Cause, Locked, Changed, CoreRefusal, Core, Turn, phase_of, after_turns}
-use Rattle.rl_worker.specs.Opening.{OpenLeader, CoreFits, core_after, first_of, items_seen}
+use Rattle.rl_worker.specs.Acts.{Cause, Locked, Changed, CoreRefusal, Core, Turn, phase_of, step, after_turns}
+use Rattle.rl_worker.specs.Opening.{OpenLeader, CoreFits, core_after, first_of, item_seen, items_seen}
+use Rattle.rl_worker.specs.Workers.{phase_of_worker, epoch_of, decided_item, WorkerFits, Steps}
+use Rattle.rl_worker.specs.OneTurn.{IsOneStep, TellsNews, IsInRange, SeenInRange, items_by, ended_by, installing}
+use Rattle.rl_worker.specs.Stamping.{WritesAreThere, opening_stamps}
+use Rattle.rl_worker.specs.declared.act.Moved.{Moved}
+use Rattle.rl_worker.specs.declared.words.Words.{Words}
+use Rattle.rl_worker.specs.declared.worker.Worker.{Worker}
 
--- a cause is true: another worker held the record, or none did and its stamp had moved
+-- a cause is true: another worker held the record, or no other did and its stamp had moved
 abbrev pub IsTrueCause : (worker : ℕ) → Cause → Type 0
 IsTrueCause w (Locked holder found) = other w holder ≡ true
 IsTrueCause w (Changed holder seen found) = (other w holder ≡ false) × (found ≢ seen)
@@ -82,3 +95,49 @@ StampsStayBelow = (l : OpenLeader) (turns : List Turn) (w : ℕ) → IsBelowNext
 abbrev pub SettledStays : Type 0
 SettledStays = (S : Setting) (core : Core) (t : ℕ) (turns : List Turn) → IsSettled t core
     → early t (after_turns S core turns).decided ≡ early t core.decided
+
+-- ---- one step ----
+-- each step of a worker that is there adds an item or none, and changes no other worker
+abbrev pub StepsAreOne : Type 0
+StepsAreOne = (S : Setting) (core : Core) (w : ℕ) → w < length core.workers → IsOneStep w core (step S core w)
+
+-- each step of the code tells what ended and was refused in it
+abbrev pub StepsTellNews : Type 0
+StepsTellNews = (tables : List Table) (old new : Worker) (words : Words) (told : Moved) (before after : Core)
+    → Steps tables old new words told before after → TellsNews old told before after
+
+-- ---- any turns ----
+-- stamps stay in the range of their epoch
+abbrev pub StampsStayInRange : Type 0
+StampsStayInRange = (l : OpenLeader) (turns : List Turn) → IsInRange l (length turns) (core_after l turns)
+
+-- what is decided is in range
+abbrev pub ItemsStayInRange : Type 0
+ItemsStayInRange = (l : OpenLeader) (turns : List Turn) → CoreFits l
+    → All (SeenInRange l) (items_seen l.epoch (core_after l turns).decided)
+
+-- a worker's decided items, by stamp, are those that have ended, in the order in which they did, and the one that it
+-- installs
+abbrev pub ItemsEndInOrder : Type 0
+ItemsEndInOrder = (l : OpenLeader) (turns : List Turn) (w : ℕ) → let c = core_after l turns in
+    items_by w c.decided ≡ ended_by w c ++ option_to_list (installing (phase_of c w))
+
+-- a worker's decided item that has not ended is the one that it installs, as it is seen
+abbrev pub OpenItemsAreInstalled : Type 0
+OpenItemsAreInstalled = (tables : List Table) (lists : List (List (List Op))) (w : Worker) → WorkerFits tables lists w
+    → decided_item w ≡ option_map (item_seen (epoch_of w)) (installing (phase_of_worker tables w))
+
+-- ---- how an epoch opens ----
+-- there is an opening stamp for each record
+abbrev pub EachRecordOpens : Type 0
+EachRecordOpens = (sizes : List ℕ) (items : List Item) → length (opening_stamps sizes items) ≡ sum sizes
+
+-- where all items have stamps below one above 0, as those of earlier epochs, so do the records as they open
+abbrev pub OpeningStampsAreEarly : Type 0
+OpeningStampsAreEarly = (sizes : List ℕ) (items : List Item) (bound : ℕ) → 0 < bound
+    → All (λ (item : Item). packed item.stamp < bound) items → All (λ stamp. stamp < bound) (opening_stamps sizes items)
+
+-- what fits the tables is there
+abbrev pub FittingWritesAreThere : Type 0
+FittingWritesAreThere = (tables : List Table) (item : Item) → ItemWritesFit tables item
+    → WritesAreThere (sizes_of tables) item

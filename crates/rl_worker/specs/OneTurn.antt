@@ -2,18 +2,15 @@
 use Rattle.std.specs.Prelude.{◌≡◌, ℕ, suc, ◌+◌, ◌-◌, ◌*◌, ◌^◌, ◌<◌, ◌≤◌, List, [], ◌∷◌, ◌++◌, length, set, reverse, slice_get, ◌==◌, nat_lt, if◌then◌else◌, Option, Some, None, IfSome, option_to_list, All, Contains}
 use Rattle.std.specs.Option.{option_map}
 use Rattle.rl_base.specs.declared.limit.TheConstants.{REQUESTS}
-use Rattle.rl_value.specs.Tables.{Table}
 use Rattle.rl_txn.specs.Fits.{ItemFits}
 use Rattle.rl_txn.specs.declared.item.Item.{Item}
-use Rattle.rl_txn.specs.declared.op.Op.{Op}
 use Rattle.rl_worker.specs.Items.{CoreItem}
-use Rattle.rl_worker.specs.Phases.{Phase, Storing, Setting}
-use Rattle.rl_worker.specs.Acts.{CoreRefusal, Core, Turn, phase_of, step}
-use Rattle.rl_worker.specs.Opening.{OpenLeader, CoreFits, core_after, item_seen, items_seen}
-use Rattle.rl_worker.specs.Workers.{phase_of_worker, epoch_of, decided_item, WorkerFits, Steps, with_item, stamp_made}
+use Rattle.rl_worker.specs.Phases.{Phase, Storing}
+use Rattle.rl_worker.specs.Acts.{CoreRefusal, Core, phase_of}
+use Rattle.rl_worker.specs.Opening.{OpenLeader, item_seen}
+use Rattle.rl_worker.specs.Workers.{epoch_of, with_item, stamp_made}
 use Rattle.rl_worker.specs.Told.{refused}
 use Rattle.rl_worker.specs.declared.act.Moved.{Moved}
-use Rattle.rl_worker.specs.declared.words.Words.{Words}
 use Rattle.rl_worker.specs.declared.worker.Worker.{Worker}
 
 -- ---- one step ----
@@ -33,10 +30,6 @@ pub record IsOneStep (w : ℕ) (c c' : Core) : Type 0 where
   pub next_low : c.next ≤ c'.next
   pub next_high : c'.next ≤ suc c.next
 
--- each step of a worker that is there is one
-abbrev pub StepsAreOne : Type 0
-StepsAreOne = (S : Setting) (core : Core) (w : ℕ) → w < length core.workers → IsOneStep w core (step S core w)
-
 -- the item that ended between two cores, if one did
 abbrev pub newly_ended : (before after : Core) → Option CoreItem
 newly_ended before after = if nat_lt (length before.ended) (length after.ended) then slice_get after.ended 0 else None
@@ -50,11 +43,6 @@ newly_refused before after =
 pub record TellsNews (w : Worker) (told : Moved) (before after : Core) : Type 0 where
   pub ended : told.ended ≡ option_map (item_seen (epoch_of w)) (newly_ended before after)
   pub refused : told.refused ≡ option_map refused (newly_refused before after)
-
--- each step of the code tells it
-abbrev pub StepsTellNews : Type 0
-StepsTellNews = (tables : List Table) (old new : Worker) (words : Words) (told : Moved) (before after : Core)
-    → Steps tables old new words told before after → TellsNews old told before after
 
 -- ---- any turns ----
 -- a worker that is there made a stamp from one on, below another
@@ -73,10 +61,6 @@ pub record IsInRange (l : OpenLeader) (turns : ℕ) (c : Core) : Type 0 where
   pub made : All (MadeBetween (length l.firsts) (l.epoch * 2 ^ 40 + 2) c.next) c.made
   pub decided : All (λ x. Contains c.made (stamp_made x)) c.decided
 
--- stamps stay in the range of their epoch
-abbrev pub StampsStayInRange : Type 0
-StampsStayInRange = (l : OpenLeader) (turns : List Turn) → IsInRange l (length turns) (core_after l turns)
-
 -- an item as it is seen: of the epoch, with a seq between the marks' and a worker and an index that are there, and it fits its
 -- request
 pub record SeenInRange (l : OpenLeader) (item : Item) : Type 0 where
@@ -88,11 +72,6 @@ pub record SeenInRange (l : OpenLeader) (item : Item) : Type 0 where
   pub index_low : 1 ≤ item.index
   pub index_high : item.index ≤ REQUESTS
   pub fits : ItemFits l.tables l.lists item
-
--- what is decided is in range
-abbrev pub ItemsStayInRange : Type 0
-ItemsStayInRange = (l : OpenLeader) (turns : List Turn) → CoreFits l
-    → All (SeenInRange l) (items_seen l.epoch (core_after l turns).decided)
 
 -- the items of one worker
 abbrev pub items_by : (w : ℕ) → List CoreItem → List CoreItem
@@ -107,13 +86,3 @@ installing p = None
 -- the items of a worker that have ended, in their order
 abbrev pub ended_by : (w : ℕ) → Core → List CoreItem
 ended_by w c = reverse (items_by w c.ended)
-
--- a worker's decided items, by stamp, are those that have ended, in the order in which they did, and the one that it installs
-abbrev pub ItemsEndInOrder : Type 0
-ItemsEndInOrder = (l : OpenLeader) (turns : List Turn) (w : ℕ) → let c = core_after l turns in
-    items_by w c.decided ≡ ended_by w c ++ option_to_list (installing (phase_of c w))
-
--- a worker's decided item that has not ended is the one that it installs, as it is seen
-abbrev pub OpenItemsAreInstalled : Type 0
-OpenItemsAreInstalled = (tables : List Table) (lists : List (List (List Op))) (w : Worker) → WorkerFits tables lists w
-    → decided_item w ≡ option_map (item_seen (epoch_of w)) (installing (phase_of_worker tables w))

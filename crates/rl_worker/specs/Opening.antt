@@ -1,6 +1,6 @@
 -- The core of an open leader: real tables, request lists and rows.
 use Rattle.std.specs.Prelude.{ℕ, zero, suc, ◌+◌, ◌-◌, ◌*◌, ◌^◌, ◌<◌, List, [], ◌∷◌, map, sum, slice_index, Option, None, is_some}
-use Rattle.std.specs.Option.{option_map_or, option_and_then}
+use Rattle.std.specs.Option.{option_map_or}
 use Rattle.std.specs.List.{range_with_len}
 use Rattle.std.specs.FinMap as finite
 use Rattle.rl_base.specs.declared.stamp.Stamp.{Stamp}
@@ -12,7 +12,7 @@ use Rattle.rl_tables.specs.Numbers.{sizes_of, record_of, place_of}
 use Rattle.rl_txn.specs.Fits.{ListsFit}
 use Rattle.rl_txn.specs.Run.{Overlay, run}
 use Rattle.rl_txn.specs.Eval.{rows_of, wants}
-use Rattle.rl_txn.specs.Serial.{numbered}
+use Rattle.rl_txn.specs.Serial.{request}
 use Rattle.rl_txn.specs.declared.op.Op.{Op}
 use Rattle.rl_txn.specs.declared.eval.Wants as eval
 use Rattle.rl_txn.specs.declared.eval.Wants.TheVariants.{Read as WantsRead, Ended as WantsEnded}
@@ -42,10 +42,6 @@ outcome_of tables txn reads (WantsEnded end) =
 -- what a transaction does next, given the records that it has read
 abbrev pub outcome : List Table → List Op → List Read → Outcome
 outcome tables txn reads = outcome_of tables txn reads (wants tables txn (overlay_of tables reads))
-
--- the request of a worker and an index, both counted from 1
-abbrev pub request : List (List (List Op)) → (w q : ℕ) → Option (List Op)
-request lists w q = option_and_then (λ list. numbered list q) (numbered lists w)
 
 -- a worker begins no request that is not there; such a one would never end
 abbrev pub asks : List Table → List (List (List Op)) → (w q : ℕ) → List Read → Outcome

@@ -1,10 +1,8 @@
 -- The stamps with which the records of an epoch open.
-use Rattle.std.specs.Prelude.{◌≡◌, ℕ, ◌^◌, ◌<◌, Bool, List, [], ◌∷◌, map, length, sum, slice_index, ◌==◌, if◌then◌else◌, All}
+use Rattle.std.specs.Prelude.{ℕ, ◌^◌, ◌<◌, Bool, List, [], ◌∷◌, map, length, sum, slice_index, ◌==◌, if◌then◌else◌, All}
 use Rattle.std.specs.List.{list_any, range_with_len}
 use Rattle.rl_base.specs.Stamps.{packed}
-use Rattle.rl_value.specs.Tables.{Table}
-use Rattle.rl_tables.specs.Numbers.{sizes_of, record_of}
-use Rattle.rl_txn.specs.Fits.{ItemWritesFit}
+use Rattle.rl_tables.specs.Numbers.{record_of}
 use Rattle.rl_txn.specs.declared.item.Item.{Item}
 use Rattle.rl_txn.specs.declared.write.Write.{Write}
 
@@ -33,17 +31,3 @@ last_stamp sizes r n (item ∷ items) = last_stamp sizes r (stamp_after sizes r 
 -- each record's stamp after an opening list: that of the last item that writes it, or 0
 abbrev pub opening_stamps : (sizes : List ℕ) → List Item → List ℕ
 opening_stamps sizes items = map (λ r. last_stamp sizes r 0 items) (range_with_len 0 (sum sizes))
-
--- there is one for each record
-abbrev pub EachRecordOpens : Type 0
-EachRecordOpens = (sizes : List ℕ) (items : List Item) → length (opening_stamps sizes items) ≡ sum sizes
-
--- where all items have stamps below one above 0, as those of earlier epochs, so do the records as they open
-abbrev pub OpeningStampsAreEarly : Type 0
-OpeningStampsAreEarly = (sizes : List ℕ) (items : List Item) (bound : ℕ) → 0 < bound
-    → All (λ (item : Item). packed item.stamp < bound) items → All (λ stamp. stamp < bound) (opening_stamps sizes items)
-
--- what fits the tables is there
-abbrev pub FittingWritesAreThere : Type 0
-FittingWritesAreThere = (tables : List Table) (item : Item) → ItemWritesFit tables item
-    → WritesAreThere (sizes_of tables) item

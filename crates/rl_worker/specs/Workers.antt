@@ -6,6 +6,7 @@ use Rattle.rl_value.specs.Tables.{Table, columns_of}
 use Rattle.rl_tables.specs.Numbers.{sizes_of, place_of}
 use Rattle.rl_txn.specs.Eval.{IsEval, Awaits, awaited, rows_given, reads_room}
 use Rattle.rl_txn.specs.Fits.{WriteFits}
+use Rattle.rl_txn.specs.Serial.{request}
 use Rattle.rl_txn.specs.declared.op.Op.{Op}
 use Rattle.rl_txn.specs.declared.item.Item.{Item}
 use Rattle.rl_worker.specs.declared.act.Act.{Act}
@@ -22,7 +23,7 @@ use Rattle.rl_worker.specs.declared.worker.Worker.{Worker}
 use Rattle.rl_worker.specs.Phases.{Read, Install, Rec, Phase, Rest, Wanting, Loading, Locking, Validating, Storing, Refusing, Setting}
 use Rattle.rl_worker.specs.Items.{CoreItem, insert_by_stamp}
 use Rattle.rl_worker.specs.Acts.{CoreRefusal, Core, target, phase_of, is_done, begin}
-use Rattle.rl_worker.specs.Opening.{install_of, overlay_of, request, item_seen, items_seen}
+use Rattle.rl_worker.specs.Opening.{install_of, overlay_of, item_seen, items_seen}
 use Rattle.rl_worker.specs.Told.{found, refused, act_of}
 
 -- ---- what a worker stands for ----

@@ -1,8 +1,8 @@
 //! What holds of all workers of an open leader together.
 
 ghost use Rattle.rl_worker.specs.Laws.{DecidesSerially, ItemsFollowOn, CausesAreTrue, StampsRise, StampsStayBelow, SettledStays};
-ghost use Rattle.rl_worker.specs.OneTurn.{StepsAreOne, StepsTellNews, StampsStayInRange, ItemsStayInRange, ItemsEndInOrder, OpenItemsAreInstalled};
-ghost use Rattle.rl_worker.specs.Stamping.{EachRecordOpens, OpeningStampsAreEarly, FittingWritesAreThere};
+ghost use Rattle.rl_worker.specs.Laws.{StepsAreOne, StepsTellNews, StampsStayInRange, ItemsStayInRange, ItemsEndInOrder, OpenItemsAreInstalled};
+ghost use Rattle.rl_worker.specs.Laws.{EachRecordOpens, OpeningStampsAreEarly, FittingWritesAreThere};
 
 /// The law of the core, for every list of steps and idle draws of all workers, from records with
 /// stamps of earlier epochs: what is decided is serial by stamp, each worker's items follow on

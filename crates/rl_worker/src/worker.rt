@@ -3,17 +3,19 @@
 ghost use Rattle.std.specs.Prelude.{◌≡◌, ℕ, List, [], ◌+◌, ◌-◌, ◌*◌, ◌^◌, ◌<◌, ◌≤◌, IfOk, OnOk, OnErr, IfSome, IfNone, IsErr, IsTrue, Some, None, true, false, length};
 ghost use Rattle.std.specs.Option.{option_copied};
 ghost use Rattle.std.specs.Result.{result_err};
+ghost use Rattle.rl_base.specs.declared.limit.TheConstants.{REQUESTS};
 ghost use Rattle.rl_value.specs.Rows.{Rows};
 ghost use Rattle.rl_tables.specs.Numbers.{sizes_of};
 ghost use Rattle.rl_value.specs.Tables.{Table};
 ghost use Rattle.rl_txn.specs.Fits.{TxnFits, ListsFit};
 ghost use Rattle.rl_txn.specs.Run.{run};
 ghost use Rattle.rl_txn.specs.Eval.{HasEnded, IsEval, HasRows, rows_given};
+ghost use Rattle.rl_txn.specs.Serial.{request};
 ghost use Rattle.rl_txn.specs.declared.op.Op.{Op};
 ghost use Rattle.rl_worker.specs.declared.commit.Commit.{Commit};
 ghost use Rattle.rl_worker.specs.Phases.{asked, Rest, Setting};
 ghost use Rattle.rl_worker.specs.Acts.{Core, resting, idle, step};
-ghost use Rattle.rl_worker.specs.Opening.{outcome, request, setting_of};
+ghost use Rattle.rl_worker.specs.Opening.{outcome, setting_of};
 ghost use Rattle.rl_worker.specs.Told.{NamesRecord};
 ghost use Rattle.rl_worker.specs.Workers.{StageFits, stage_phase, phase_of_worker, WorkerFits, RecordsFit, Stands, number_of, epoch_of, next_of, decided_item, decided_at, is_resting, Steps, act_of_step};
 ghost use Rattle.rl_worker.specs.Attempts.{IsAsking, IsAct, IsAttemptOf, HasBegun, is_reading, is_loaded, Confirms, ran_on, IsCommitting, Commits, ended_worker, IsActed};
@@ -294,7 +296,7 @@ impl Worker {
         requires records { RecordsFit schema.now words.old.records.items }
         requires next { words.old.next < 2 ^ 40 - 1 }
         requires commits { IsCommitting schema.now self.old self.old.stage }
-        requires index { self.old.index ≤ 8192 }
+        requires index { self.old.index ≤ REQUESTS }
         ensures act { Commits schema.now self.old self.new words.old words.new result }
         ensures there { NamesRecord schema.now result.refused }
         ensures records { RecordsFit schema.now words.new.records.items }
@@ -312,7 +314,7 @@ impl Worker {
 
     /// Ends the attempt, and answers its item if it was decided.
     fn end(&mut self) -> Option<Item>
-        requires { self.old.index ≤ 8192 }
+        requires { self.old.index ≤ REQUESTS }
         ensures { (c : Commit) → self.old.stage ≡ Stage.Committing c
             → (self.new ≡ ended_worker self.old c) × (result ≡ decided_at self.old.stage) }
     {
@@ -333,7 +335,7 @@ impl Worker {
         requires fits { StageFits schema.now txn.now self.old self.old.stage }
         requires attempt { is_resting self.old.stage ≡ false }
         requires epoch { self.old.epoch < 2 ^ 20 }
-        requires index { self.old.index ≤ 8192 }
+        requires index { self.old.index ≤ REQUESTS }
         requires records { RecordsFit schema.now words.old.records.items }
         requires next { words.old.next < 2 ^ 40 - 1 }
         ensures acted { IsActed schema.now txn.now self.old self.new words.old words.new result }

@@ -12,5 +12,5 @@ epoch_is n (Some x) h = ap Some h
 pub returns : goal.returns
 returns c =
     let n = slice_index c.args.self.now.replaying.played (c.args.stream - 1) in
-    epoch_is c.epoch_at.result (slice_get (entries_of c.in_ok-batch.batch.now) c.in_ok-batch.at.place) c.epoch_at.ensures
+    epoch_is c.epoch_at.result (slice_get (entries_of c.in_ok-batch.batch.now) c.in_ok-batch.at.index) c.epoch_at.ensures
     ∙ ap (option_map (λ (x : Entry). x.stamp.epoch)) (found_entry c.first_batches-known.result.now n c.in_ok-batch.batch.now c.in_ok-batch.at c.in_ok-batch.ensures.found ∙ ap (λ z. entry_at z n) c.first_batches-known.ensures)

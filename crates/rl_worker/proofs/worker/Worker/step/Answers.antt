@@ -1,8 +1,9 @@
 use Rattle.std.proofs.Common.{◌≡◌, ◌∙◌, Bool, None, refl, ap, sym, subst, is_some, true, false, arith, IsSomeAnd}
 use Rattle.std.specs.Option.{option_copied}
+use Rattle.rl_txn.specs.Serial.{request}
 use Rattle.rl_worker.specs.declared.worker.Stage.{Stage}
 use Rattle.rl_worker.specs.declared.worker.Stage.TheVariants as stage
-use Rattle.rl_worker.specs.Opening.{request, setting_of}
+use Rattle.rl_worker.specs.Opening.{setting_of}
 use Rattle.rl_worker.specs.Workers.{is_resting, StageFits}
 use Rattle.rl_worker.proofs.Settings.{request_fits}
 use Rattle.rl_worker.proofs.Steps.{is_rest, index_few, asks_it, stage_fits, makes_step, tells_step, rests_step}
