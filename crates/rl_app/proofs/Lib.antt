@@ -1,6 +1,6 @@
-pub mod Ranges
 pub mod Followed
 pub mod Generated
+pub mod Names
 pub mod Opened
 pub mod Reported
 pub mod Runs

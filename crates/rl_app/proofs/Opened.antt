@@ -1,8 +1,8 @@
 -- A run opens as its core does.
-use Rattle.std.proofs.Common.{◌≡◌, ℕ, zero, suc, ◌+◌, ◌*◌, ◌^◌, ◌<◌, List, [], ◌∷◌, length, map, get_or, slice_get, replicate, sum, Some, refl, sym, ap, ◌∙◌, arith, Vec, String}
+use Rattle.std.proofs.Common.{◌≡◌, ℕ, zero, suc, ◌+◌, ◌*◌, ◌^◌, ◌<◌, List, [], ◌∷◌, length, map, get_or, slice_get, replicate, sum, All, Some, refl, sym, ap, subst, ◌∙◌, arith, Vec}
 use Rattle.std.specs.Global.{Global}
-use Rattle.std.specs.String.{string_bytes}
 use Rattle.std.proofs.lemmas.List.{length-map, length-replicate}
+use Rattle.std.proofs.lemmas.List.Elements.{All-nil}
 use Rattle.std.proofs.lemmas.List.Sums.{sum_by-cons}
 use Rattle.rl_value.specs.Tables.{Table, record_count}
 use Rattle.rl_tables.specs.Numbers.{sizes_of}
@@ -14,6 +14,8 @@ use Rattle.rl_worker.specs.declared.worker.Worker.{Worker}
 use Rattle.rl_worker.specs.Phases.{Rest}
 use Rattle.rl_worker.specs.Opening.{opening_recs, core_after}
 use Rattle.rl_worker.specs.Workers.{RecordsFit, number_of, stamp_next}
+use Rattle.rl_report.specs.Forms.{IsRefused}
+use Rattle.rl_report.specs.declared.middle.Middle.{Middle}
 use Rattle.rl_app.specs.Runs.{leader_of}
 use Rattle.rl_app.specs.Running.{IsFresh, IsBySeq, IsRun}
 
@@ -38,13 +40,14 @@ some_there [] i x e = absurd (cc)
 some_there (y ∷ ys) zero x e = omega arith
 some_there (y ∷ ys) (suc i) x e = omega (arith, some_there ys i x e)
 
-pub opened : (script : Script) (words : Words) (workers : Vec Worker Global) (decided : Vec Item Global) (text : String Global) (stamps : List ℕ) → ScriptFits script
+pub opened : (script : Script) (words : Words) (workers : Vec Worker Global) (decided : Vec Item Global) (lines : List Middle) (stamps : List ℕ) → ScriptFits script
     → words.records.items ≡ opening_recs script.schema script.rows stamps → words.next ≡ 2 → RecordsFit script.schema words.records.items → stamps ≡ replicate (sum (sizes_of script.schema)) 0
-    → length workers.items ≡ script.workers → ((i : ℕ) (w : Worker) → slice_get workers.items i ≡ Some w → IsFresh i w) → decided.items ≡ [] → string_bytes text ≡ []
-    → IsRun script.schema script.lists (record { words = words; workers = workers; decided = decided; refused = text }) (core_after (leader_of script) [])
-opened script words workers decided text stamps fits recs next records zeros count each none empty =
+    → length workers.items ≡ script.workers → ((i : ℕ) (w : Worker) → slice_get workers.items i ≡ Some w → IsFresh i w) → decided.items ≡ [] → lines ≡ []
+    → IsRun script.schema script.lists (record { words = words; workers = workers; decided = decided; refused = lines }) (core_after (leader_of script) [])
+opened script words workers decided lines stamps fits recs next records zeros count each none empty =
     let stamps_are : stamps ≡ replicate (record_count script.schema) 0 = zeros ∙ ap (λ n. replicate n 0) (counted script.schema) in
     record {
+      schema = fits.tables;
       workers = λ i w e.
           let f = each i w e in
           let i_less : i < script.workers = omega (arith, some_there workers.items i w e, count) in
@@ -66,6 +69,7 @@ opened script words workers decided text stamps fits recs next records zeros cou
       decided = none;
       by_seq = by_none decided.items none;
       refused = empty;
+      named = subst (All IsRefused) (sym empty) (All-nil IsRefused);
     }
   where
     by_none : (xs : List Item) → xs ≡ [] → IsBySeq xs

@@ -1,12 +1,12 @@
 -- The report of the steps of a script.
-use Rattle.std.proofs.Common.{◌≡◌, ℕ, zero, suc, ◌+◌, ◌<◌, ◌≤◌, List, [], ◌∷◌, ◌++◌, length, get_or, slice_get, slice_index, take, reverse, replicate, codes, None, IsSomeAnd, refl, sym, ap, ◌∙◌, subst, arith, inl, inr}
-use Rattle.std.specs.List.{flat_map, range_with_len}
+use Rattle.std.proofs.Common.{◌≡◌, ℕ, zero, suc, ◌+◌, ◌<◌, ◌≤◌, List, [], ◌∷◌, ◌++◌, length, map, get_or, slice_get, slice_index, take, replicate, All, None, IsSomeAnd, refl, sym, ap, ◌∙◌, subst, arith, inl, inr}
+use Rattle.std.specs.List.{range_with_len}
 use Rattle.std.specs.Option.{option_and_then}
 use Rattle.std.proofs.lemmas.Bool.{cases_lt}
 use Rattle.std.proofs.lemmas.Bool.Decides.{eqb_tells}
 use Rattle.std.proofs.lemmas.List.{take_more}
 use Rattle.rl_value.specs.Rows.{Rows}
-use Rattle.rl_value.specs.Tables.{Table, record_count}
+use Rattle.rl_value.specs.Tables.{Table, IsSchema, record_count}
 use Rattle.rl_txn.specs.Serial.{rows_after, after_writes, numbered, request_of, Runs, indexes_of, IsInLists}
 use Rattle.rl_txn.specs.Run.{run}
 use Rattle.rl_txn.specs.declared.op.Op.{Op}
@@ -16,10 +16,19 @@ use Rattle.rl_script.specs.declared.script.Script.{Script}
 use Rattle.rl_worker.specs.Opening.{first_of, CoreFits}
 use Rattle.rl_app.specs.Runs.{leader_of, core_of}
 use Rattle.rl_app.specs.Running.{IsRun}
-use Rattle.rl_app.specs.Steps.{decided_of}
+use Rattle.rl_report.specs.Forms.{IsRefused, IsReport}
+use Rattle.rl_report.specs.Lines.{item_line, row_lines}
+use Rattle.rl_report.specs.declared.block.Block.{Block}
+use Rattle.rl_report.specs.declared.line.ItemLine.{ItemLine}
+use Rattle.rl_report.specs.declared.line.RowLine.{RowLine}
+use Rattle.rl_report.specs.declared.middle.Middle.{Middle}
+use Rattle.rl_report.specs.declared.report.Report.{Report}
+use Rattle.rl_report.specs.declared.report.Title.{Title}
+use Rattle.rl_report.specs.declared.report.Title.TheVariants.{Serial, Steps}
+use Rattle.rl_app.specs.Reports.{run_report}
+use Rattle.rl_app.specs.Steps.{refused_in, decided_of}
+use Rattle.rl_app.proofs.Names.{rows_named}
 use Rattle.rl_app.specs.declared.run.Run.{Run}
-use Rattle.std.specs.String.{string_bytes}
-use Rattle.rl_app.specs.Texts.{refusal_text, run_text, steps_text}
 
 after_append : (rows : Rows) (xs : List Item) (x : Item) → rows_after rows (xs ++ x ∷ []) ≡ after_writes (rows_after rows xs) x.writes
 after_append rows [] x = refl
@@ -29,16 +38,30 @@ after_append rows (y ∷ ys) x = after_append (after_writes rows y.writes) ys x
 pub after_more : (rows : Rows) (items : List Item) (i : ℕ) (x : Item) → i < length items → x ≡ get_or items i x → rows_after rows (take (i + 1) items) ≡ after_writes (rows_after rows (take i items)) x.writes
 after_more rows items i x l is = ap (rows_after rows) (take_more items i x l ∙ ap (λ z. take i items ++ z ∷ []) (sym is)) ∙ after_append rows (take i items) x
 
--- what was printed, by what a run kept
-pub printed : (script : Script) (run : Run) (items : List Item) (rows : Rows) (text : List ℕ) → IsRun script.schema script.lists run (core_of script) → items ≡ run.decided.items → rows ≡ rows_after script.rows items
-    → text ≡ codes "rolis steps\n" ++ string_bytes run.refused ++ run_text items script.schema rows
-    → text ≡ steps_text script.schema (core_of script).refusals (decided_of script) (rows_after script.rows (decided_of script))
-unfolding steps_text
-printed script run items rows text is kept after_is e =
+abbrev report_of : Title → List Middle → List ItemLine → List RowLine → List Block → Report
+report_of title refused lines rows blocks = record { title = title; middle = refused; items = lines; tables = rows; blocks = blocks }
+
+-- what is printed of a run
+pub run_is : (title : Title) (refused : List Middle) (items : List Item) (tables : List Table) (rows : Rows) (lines : List ItemLine) (row_lines_of : List RowLine) (blocks : List Block)
+    → lines ≡ map item_line items → row_lines_of ≡ row_lines tables rows → blocks ≡ [] → report_of title refused lines row_lines_of blocks ≡ run_report title refused items tables rows
+run_is title refused items tables rows lines rs blocks of_items of_rows none =
+    ap (λ (xs : List ItemLine). report_of title refused xs rs blocks) of_items ∙ ap (λ (ys : List RowLine). report_of title refused (map item_line items) ys blocks) of_rows
+    ∙ ap (λ (bs : List Block). report_of title refused (map item_line items) (row_lines tables rows) bs) none
+
+-- what a run kept is what the script's steps made
+pub reported : (script : Script) (run : Run) (items : List Item) (rows : Rows) → IsRun script.schema script.lists run (core_of script) → items ≡ run.decided.items → rows ≡ rows_after script.rows items
+    → run_report Steps run.refused items script.schema rows ≡ run_report Steps (refused_in script) (decided_of script) script.schema (rows_after script.rows (decided_of script))
+reported script run items rows is kept after_is =
     let back : items ≡ decided_of script = kept ∙ is.decided in
-    e ∙ ap (λ z. codes "rolis steps\n" ++ z ++ run_text items script.schema rows) is.refused
-    ∙ ap (λ z. codes "rolis steps\n" ++ flat_map (refusal_text script.schema) (reverse (core_of script).refusals) ++ run_text items script.schema z) after_is
-    ∙ ap (λ xs. codes "rolis steps\n" ++ flat_map (refusal_text script.schema) (reverse (core_of script).refusals) ++ run_text xs script.schema (rows_after script.rows xs)) back
+    ap (λ (ls : List Middle). run_report Steps ls items script.schema rows) is.refused ∙ ap (λ (r : Rows). run_report Steps (refused_in script) items script.schema r) after_is
+    ∙ ap (λ (xs : List Item). run_report Steps (refused_in script) xs script.schema (rows_after script.rows xs)) back
+
+-- so is one of the forms
+pub serial_form : (tables : List Table) (rows : Rows) (items : List Item) (refused : List Middle) → IsSchema tables → refused ≡ [] → IsReport (run_report Serial refused items tables rows)
+serial_form tables rows items refused fits none = (none, rows_named tables rows fits.each, refl)
+
+pub steps_form : (tables : List Table) (rows : Rows) (items : List Item) (refused : List Middle) → IsSchema tables → All IsRefused refused → IsReport (run_report Steps refused items tables rows)
+steps_form tables rows items refused fits named = (named, rows_named tables rows fits.each, refl)
 
 zeros : (n r : ℕ) → slice_index (replicate n 0) r ≡ 0
 zeros zero r = refl

@@ -1,11 +1,9 @@
 -- A step of a run is a turn of its core.
-use Rattle.std.proofs.Common.{◌≡◌, ◌≢◌, ℕ, zero, suc, ◌+◌, ◌-◌, ◌*◌, ◌^◌, ◌<◌, ◌≤◌, List, [], ◌∷◌, ◌++◌, ◌==◌, Bor, length, get_or, slice_get, set, reverse, option_to_list, nat_lt, ◌&&◌, Bool, true, false, Result, Ok, Err, OnOk, is_some, if◌then◌else◌, Option, Some, None, IfSome, refl, sym, ap, ◌∙◌, subst, arith, inl, inr, ◌⊎◌}
-use Rattle.std.specs.List.{flat_map}
-use Rattle.std.specs.Option.{option_map, option_map_or, option_copied}
-use Rattle.std.specs.String.{string_bytes}
-use Rattle.std.proofs.lemmas.Grind.{reverse_onto, flat_map-append}
+use Rattle.std.proofs.Common.{◌≡◌, ◌≢◌, ℕ, zero, suc, ◌+◌, ◌-◌, ◌*◌, ◌^◌, ◌<◌, ◌≤◌, List, [], ◌∷◌, ◌++◌, ◌==◌, Bor, length, map, get_or, slice_get, set, reverse, option_to_list, nat_lt, ◌&&◌, All, Bool, true, false, Result, Ok, Err, OnOk, is_some, if◌then◌else◌, Option, Some, None, IfSome, refl, sym, ap, ◌∙◌, subst, arith, inl, inr, ◌⊎◌}
+use Rattle.std.specs.Option.{option_map, option_copied}
+use Rattle.std.proofs.lemmas.Grind.{reverse_onto}
 use Rattle.std.proofs.lemmas.Bool.Decides.{eqb_tells}
-use Rattle.std.proofs.lemmas.List.{get_or-set_same, get_or-set_other, length-set, append-nil}
+use Rattle.std.proofs.lemmas.List.{get_or-set_same, get_or-set_other, length-set, append-nil, map-append}
 use Rattle.rl_base.proofs.Tests.{lt_true, lt_false}
 use Rattle.rl_value.specs.Tables.{Table}
 use Rattle.rl_txn.specs.declared.op.Op.{Op}
@@ -21,7 +19,8 @@ use Rattle.rl_worker.specs.Workers.{Stands, Steps, WorkerFits, RecordsFit, IsIte
 use Rattle.rl_worker.specs.Told.{refused}
 use Rattle.rl_worker.specs.Items.{CoreItem}
 use Rattle.rl_app.specs.declared.run.Run.{Run}
-use Rattle.rl_app.specs.Texts.{refused_text, refusal_text}
+use Rattle.rl_report.specs.Forms.{IsRefused}
+use Rattle.rl_app.specs.Steps.{refused_line, refusal_line}
 use Rattle.rl_app.specs.Running.{IsBySeq, IsInFirst, IsPlaced, IsRun}
 
 got : {X : Type 0} (xs : List X) (i : ℕ) (d : X) → i < length xs → slice_get xs i ≡ Some (get_or xs i d)
@@ -42,14 +41,14 @@ no_item None = refl
 no_item (Some x) = refl
 
 -- one more refusal is one more line
-added : (tables : List Table) (xs : List acts.CoreRefusal) (f : Option acts.CoreRefusal) → flat_map (refusal_text tables) (reverse xs) ++ option_map_or (refusal_text tables) f [] ≡ flat_map (refusal_text tables) (reverse (option_to_list f ++ xs))
+added : (tables : List Table) (xs : List acts.CoreRefusal) (f : Option acts.CoreRefusal) → map (refusal_line tables) (reverse xs) ++ option_to_list (option_map (refusal_line tables) f) ≡ map (refusal_line tables) (reverse (option_to_list f ++ xs))
 added tables xs None = append-nil _
-added tables xs (Some f) = sym (ap (flat_map (refusal_text tables)) (reverse_onto xs f []) ∙ flat_map-append (refusal_text tables) (reverse xs) (f ∷ []) ∙ ap (λ z. flat_map (refusal_text tables) (reverse xs) ++ z) (append-nil (refusal_text tables f)))
+added tables xs (Some f) = sym (ap (map (refusal_line tables)) (reverse_onto xs f []) ∙ map-append (refusal_line tables) (reverse xs) (f ∷ []))
 
 -- the line of a refusal is that of what was told
-line_of : (tables : List Table) (k q : ℕ) (f : Option acts.CoreRefusal) → IfSome f (λ f. (f.worker ≡ k) × (f.index ≡ q)) → option_map_or (refused_text tables k q) (option_map refused f) [] ≡ option_map_or (refusal_text tables) f []
+line_of : (tables : List Table) (k q : ℕ) (f : Option acts.CoreRefusal) → IfSome f (λ f. (f.worker ≡ k) × (f.index ≡ q)) → option_map (refused_line tables k q) (option_map refused f) ≡ option_map (refusal_line tables) f
 line_of tables k q None h = refl
-line_of tables k q (Some f) h = ap (λ w. refused_text tables w q (refused f)) (sym h.0) ∙ ap (λ i. refused_text tables f.worker i (refused f)) (sym h.1)
+line_of tables k q (Some f) h = ap Some (ap (λ w. refused_line tables w q (refused f)) (sym h.0) ∙ ap (λ i. refused_line tables f.worker i (refused f)) (sym h.1))
 
 -- the worker at a place
 pub worker_at : (xs : List Worker) (i : ℕ) → i < length xs → (x : Worker) × (x ≡ get_or xs i x)
@@ -121,17 +120,19 @@ module _ (tables : List Table) (lists : List (List (List Op))) (run : Run) (core
 
     pub after : (run' : Run) → run'.words ≡ words' → run'.workers.items ≡ set run.workers.items (k - 1) x' → WorkerFits tables lists x' → RecordsFit tables words'.records.items
         → run'.decided.items ≡ items_seen 1 (with_item t.item core.decided) → IsBySeq run'.decided.items
-        → string_bytes run'.refused ≡ string_bytes run.refused ++ option_map_or (refused_text tables k (next_of x)) told.refused [] → IsRun tables lists run' core'
-    after run' ws items fit records decided sorted text = record {
+        → run'.refused ≡ run.refused ++ option_to_list (option_map (refused_line tables k (next_of x)) told.refused) → All IsRefused run'.refused → IsRun tables lists run' core'
+    after run' ws items fit records decided sorted lines named = record {
+      schema = is.schema;
       workers = λ i w e. place i w (ap (λ zs. slice_get zs i) (sym items) ∙ e) (eqb_tells i (k - 1));
       count = ap length items ∙ length-set run.workers.items (k - 1) x' ∙ is.count;
       records = subst (λ (z : Words). RecordsFit tables z.records.items) (sym ws) records;
       decided = decided ∙ ap (items_seen 1) (sym t.decided);
       by_seq = sorted;
-      refused = text ∙ ap (λ z. z ++ option_map_or (refused_text tables k (next_of x)) told.refused []) is.refused
-          ∙ ap (λ f. flat_map (refusal_text tables) (reverse core.refusals) ++ option_map_or (refused_text tables k (next_of x)) f []) t.refused
-          ∙ ap (λ z. flat_map (refusal_text tables) (reverse core.refusals) ++ z) (line_of tables k (next_of x) t.refusal (mine t.refusal t.of_refusal))
-          ∙ added tables core.refusals t.refusal ∙ ap (λ fs. flat_map (refusal_text tables) (reverse fs)) (sym t.refusals);
+      refused = lines ∙ ap (λ z. z ++ option_to_list (option_map (refused_line tables k (next_of x)) told.refused)) is.refused
+          ∙ ap (λ f. map (refusal_line tables) (reverse core.refusals) ++ option_to_list (option_map (refused_line tables k (next_of x)) f)) t.refused
+          ∙ ap (λ o. map (refusal_line tables) (reverse core.refusals) ++ option_to_list o) (line_of tables k (next_of x) t.refusal (mine t.refusal t.of_refusal))
+          ∙ added tables core.refusals t.refusal ∙ ap (λ fs. map (refusal_line tables) (reverse fs)) (sym t.refusals);
+      named = named;
     }
       where
         mine : (f : Option acts.CoreRefusal) → IfSome f (λ f. (f.worker ≡ number_of x) × (f.index ≡ next_of x)) → IfSome f (λ f. (f.worker ≡ k) × (f.index ≡ next_of x))

@@ -1,9 +1,9 @@
 pub mod Answers
 pub mod Command
 pub mod Gen
+pub mod Reports
 pub mod Running
 pub mod Runs
 pub mod Serial
 pub mod Serve
 pub mod Steps
-pub mod Texts

@@ -1,8 +1,6 @@
 -- What a run keeps as it follows a script: of this private contracts alone speak.
-use Rattle.std.specs.Prelude.{◌≡◌, ℕ, ◌+◌, ◌*◌, ◌^◌, ◌<◌, ◌≤◌, List, [], ◌∷◌, length, slice_get, reverse, Some}
-use Rattle.std.specs.List.{flat_map}
-use Rattle.std.specs.String.{string_bytes}
-use Rattle.rl_value.specs.Tables.{Table}
+use Rattle.std.specs.Prelude.{◌≡◌, ℕ, ◌+◌, ◌*◌, ◌^◌, ◌<◌, ◌≤◌, List, [], ◌∷◌, length, map, slice_get, reverse, All, Some}
+use Rattle.rl_value.specs.Tables.{Table, IsSchema}
 use Rattle.rl_txn.specs.declared.op.Op.{Op}
 use Rattle.rl_txn.specs.declared.item.Item.{Item}
 use Rattle.rl_worker.specs.declared.words.Words.{Words}
@@ -12,8 +10,9 @@ use Rattle.rl_worker.specs.Items.{CoreItem}
 use Rattle.rl_worker.specs.Opening.{items_seen}
 use Rattle.rl_worker.specs.Workers.{Stands, WorkerFits, RecordsFit, number_of, epoch_of, phase_of_worker}
 use Rattle.rl_worker.specs.Phases.{Rest}
+use Rattle.rl_report.specs.Forms.{IsRefused}
 use Rattle.rl_app.specs.declared.run.Run.{Run}
-use Rattle.rl_app.specs.Texts.{refusal_text}
+use Rattle.rl_app.specs.Steps.{refusal_line}
 
 -- each of these items has a seq from this one on
 abbrev pub AllFrom : (seq : ℕ) → List Item → Type 0
@@ -45,9 +44,11 @@ pub record IsPlaced (tables : List Table) (lists : List (List (List Op))) (words
 
 -- a run stands for a core
 pub record IsRun (tables : List Table) (lists : List (List (List Op))) (run : Run) (core : Core) : Type 0 where
+  pub schema : IsSchema tables
   pub workers : (i : ℕ) (w : Worker) → slice_get run.workers.items i ≡ Some w → IsPlaced tables lists run.words core i w
   pub count : length run.workers.items ≡ length lists
   pub records : RecordsFit tables run.words.records.items
   pub decided : run.decided.items ≡ items_seen 1 core.decided
   pub by_seq : IsBySeq run.decided.items
-  pub refused : string_bytes run.refused ≡ flat_map (refusal_text tables) (reverse core.refusals)
+  pub refused : run.refused ≡ map (refusal_line tables) (reverse core.refusals)
+  pub named : All IsRefused run.refused

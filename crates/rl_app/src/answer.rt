@@ -29,14 +29,6 @@ pub struct Answer {
 }
 
 impl Answer {
-    /// A report: status 0 with this text.
-    pub fn report(text: String) -> Answer
-        ensures status { result.status.code ≡ 0 }
-        ensures text { result.text ≡ string_bytes text }
-    {
-        Answer::line(0, text)
-    }
-
     /// What is printed for status 0.
     pub fn printed(text: Bytes) -> Answer
         ensures status { result.status.code ≡ 0 }

@@ -1,8 +1,8 @@
 //! The workers of one leader, step by step.
 
-ghost use Rattle.std.specs.Prelude.{◌≡◌, ◌+◌, ◌-◌, ◌<◌, ◌≤◌, ◌++◌, ◌^◌, ℕ, List, [], IfOk, OnOk, IfSome, Some, None, length, slice_get, get_or, replicate, reverse, sum, is_some, if◌then◌else◌, Option};
-ghost use Rattle.std.specs.Option.{option_map, option_map_or, option_copied};
-ghost use Rattle.std.specs.String.{string_bytes};
+ghost use Rattle.std.specs.Prelude.{◌≡◌, ◌+◌, ◌-◌, ◌<◌, ◌≤◌, ◌++◌, ◌^◌, ℕ, List, [], IfOk, OnOk, IfSome, Some, None, length, map, slice_get, get_or, replicate, option_to_list, All, reverse, sum, is_some, if◌then◌else◌, Option};
+ghost use Rattle.std.specs.Option.{option_map, option_copied};
+ghost use Rattle.rl_value.specs.Tables.{IsSchema};
 ghost use Rattle.rl_tables.specs.Numbers.{sizes_of};
 ghost use Rattle.rl_txn.specs.Fits.{ListsFit};
 ghost use Rattle.rl_txn.specs.declared.item.Item.{Item};
@@ -14,14 +14,16 @@ ghost use Rattle.rl_worker.specs.Opening.{core_after, setting_of, item_seen, ite
 ghost use Rattle.rl_worker.specs.Told.{record_in, NamesRecord};
 ghost use Rattle.rl_worker.specs.Workers.{either, with_item};
 ghost use Rattle.rl_worker.specs.declared.worker.Worker.{Worker};
-ghost use Rattle.rl_app.specs.Texts.{refused_text};
+ghost use Rattle.rl_report.specs.Forms.{IsRefused};
+ghost use Rattle.rl_app.specs.Steps.{refused_line};
 ghost use Rattle.rl_app.specs.Runs.{core_of, leader_of, turns_in};
 ghost use Rattle.rl_app.specs.Running.{IsRun, IsBySeq, IsFresh, IsInFirst};
 
-use rl_base::list::Stamps;
+use rl_base::list::{Bytes, Stamps};
 use rl_base::memory::Memory;
 use rl_base::refusal::Refusal;
 use rl_events::event::Event;
+use rl_report::middle::{Lines, Middle};
 use rl_script::script::Script;
 use rl_tables::layout::Layout;
 use rl_txn::item::Item;
@@ -34,14 +36,14 @@ use std::alloc::Global;
 /// The seq that ends an epoch, which no worker draws.
 const END_SEQ: u64 = 1099511627775;
 
-/// An open leader of epoch 1: its records and workers, what they decided by stamp, and the lines of
-/// the refusals in order.
+/// An open leader of epoch 1: its records and workers, what they decided by stamp, and the refusals in
+/// order.
 #[derive(Drop)]
 pub struct Run {
     pub words: Words,
     pub workers: Vec<Worker>,
     pub decided: Vec<Item>,
-    pub refused: String,
+    pub refused: Lines,
 }
 
 impl Run {
@@ -57,7 +59,7 @@ impl Run {
             words,
             workers: workers(alloc, script.workers)?,
             decided: Vec::new(alloc),
-            refused: String::new(alloc),
+            refused: Lines::new(alloc),
         })
     }
 
@@ -86,6 +88,7 @@ impl Run {
         let was_decided = self.workers[at].decided().is_some();
         let moved = self.workers[at].step(alloc, &mut self.words, layout, schema, lists)?;
         push_refusal(
+            alloc,
             &mut self.refused,
             layout,
             schema,
@@ -241,57 +244,72 @@ fn place_among(decided: &[Item], seq: u64) -> usize
     at
 }
 
-/// The line of a refusal, if there is one.
+/// Appends the line of a refusal, if there is one. After `Memory` the lines are as before.
 fn push_refusal(
-    out: &mut String,
+    alloc: Global,
+    lines: &mut Lines,
     layout: &Layout,
     schema: &Schema,
     worker: u32,
     index: u32,
     refusal: Option<Refusal>,
 ) -> Result<(), Memory>
+    requires schema { IsSchema schema.now }
     requires layout { layout.now ≡ sizes_of schema.now }
     requires there { NamesRecord schema.now refusal }
-    ensures { OnOk result (string_bytes out.new ≡ string_bytes out.old ++ option_map_or (refused_text schema.now worker index) refusal []) }
+    requires named { All IsRefused lines.old }
+    ensures lines { OnOk result (lines.new ≡ lines.old ++ option_to_list (option_map (refused_line schema.now worker index) refusal)) }
+    ensures named { All IsRefused lines.new }
 {
     match refusal {
-        Some(refusal) => push_refused(out, layout, schema, worker, index, refusal),
+        Some(refusal) => lines.push(refused_line(alloc, layout, schema, worker, index, refusal)?),
         None => Ok(()),
     }
 }
 
-/// The line of a refusal.
-fn push_refused(
-    out: &mut String,
+/// The line of a refusal, with the name of the table and the key of the record.
+fn refused_line(
+    alloc: Global,
     layout: &Layout,
     schema: &Schema,
     worker: u32,
     index: u32,
     refusal: Refusal,
-) -> Result<(), Memory>
+) -> Result<Middle, Memory>
+    requires schema { IsSchema schema.now }
     requires layout { layout.now ≡ sizes_of schema.now }
     requires there { record_in refusal < sum layout.now }
-    ensures { OnOk result (string_bytes out.new ≡ string_bytes out.old ++ refused_text schema.now worker index refusal) }
+    ensures line { IfOk result (λ line. line ≡ refused_line schema.now worker index refusal) }
+    ensures named { IfOk result IsRefused }
 {
-    let rec = match refusal {
-        Refusal::Locked { rec, .. } => rec,
-        Refusal::Changed { rec, .. } => rec,
-    };
-    let (table, key) = layout.place(rec);
-    let name = schema.name(table);
+    let (t, key) = layout.place(record_in(refusal));
+    let table = Bytes::from_slice(alloc, schema.name(t).as_bytes())?;
+    Ok(match refusal {
+        Refusal::Locked { word, .. } => Middle::Locked {
+            epoch: 1,
+            worker,
+            index,
+            table,
+            key,
+            word,
+        },
+        Refusal::Changed { seen, found, .. } => Middle::Changed {
+            epoch: 1,
+            worker,
+            index,
+            table,
+            key,
+            seen,
+            found,
+        },
+    })
+}
+
+/// The record of a refusal.
+fn record_in(refusal: Refusal) -> u32
+    ensures { result ≡ record_in refusal }
+{
     match refusal {
-        Refusal::Locked { word, .. } => {
-            write!(
-                out,
-                "refused 1 {worker} {index} locked {name} {key} {word}\n"
-            )?;
-        }
-        Refusal::Changed { seen, found, .. } => {
-            write!(
-                out,
-                "refused 1 {worker} {index} changed {name} {key} {seen} {found}\n"
-            )?;
-        }
+        Refusal::Locked { rec, .. } | Refusal::Changed { rec, .. } => rec,
     }
-    Ok(())
 }

@@ -1,7 +1,6 @@
 //! The command `serial`: all transactions one after another.
 
 ghost use Rattle.std.specs.Prelude.{◌≡◌, ◌<◌, ◌-◌, ◌^◌, ◌⊎◌, ℕ, List, IfOk, length};
-ghost use Rattle.std.specs.String.{string_bytes};
 ghost use Rattle.rl_script.specs.Fits.{ScriptFits};
 ghost use Rattle.rl_app.specs.Answers.{Reports};
 ghost use Rattle.rl_app.specs.Serial.{IsReport};
@@ -9,12 +8,15 @@ ghost use Rattle.rl_app.specs.Serve.{IsAnswered, Serves, side};
 
 use crate::answer::{Answer, Status};
 use crate::input::read_script;
-use crate::report::serial_report;
+use crate::report::print_run;
 use crate::serve::{Command, serve};
 use rl_base::limit::SCRIPT;
+use rl_base::list::Bytes;
 use rl_base::memory::Memory;
 use rl_io::sink::Sink;
 use rl_io::source::Source;
+use rl_report::middle::Lines;
+use rl_report::report::Title;
 use rl_script::script::Script;
 use rl_txn::serial::run_serially;
 use std::alloc::Global;
@@ -43,16 +45,16 @@ impl Command for SerialCommand {
 
     fn answer(&mut self, alloc: Global, input: &[u8]) -> Result<Answer, Memory> {
         match read_script(alloc, input)? {
-            Ok(script) => Ok(Answer::report(serial_run(alloc, script)?)),
+            Ok(script) => Ok(Answer::printed(serial_run(alloc, script)?)),
             Err(refused) => Ok(refused),
         }
     }
 }
 
 /// Runs the transactions of a script one after another, and answers the report.
-fn serial_run(alloc: Global, script: Script) -> Result<String, Memory>
+fn serial_run(alloc: Global, script: Script) -> Result<Bytes, Memory>
     requires { ScriptFits script }
-    ensures { IfOk result (λ text. IsReport script (string_bytes text)) }
+    ensures { IfOk result (λ text. IsReport script text) }
 {
     let Script {
         schema,
@@ -61,5 +63,12 @@ fn serial_run(alloc: Global, script: Script) -> Result<String, Memory>
         ..
     } = script;
     let (items, rows) = run_serially(alloc, &schema, &lists, rows)?;
-    Ok(serial_report(alloc, &items, &schema, &rows)?)
+    print_run(
+        alloc,
+        Title::Serial,
+        Lines::new(alloc),
+        &items,
+        &schema,
+        &rows,
+    )
 }

@@ -1,7 +1,6 @@
 //! The command `steps`: the workers of one leader, step by step.
 
 ghost use Rattle.std.specs.Prelude.{◌≡◌, ◌<◌, ◌-◌, ◌^◌, ◌⊎◌, ℕ, List, IfOk, OnOk, length};
-ghost use Rattle.std.specs.String.{string_bytes};
 ghost use Rattle.rl_script.specs.Fits.{ScriptFits};
 ghost use Rattle.rl_txn.specs.Serial.{rows_after};
 ghost use Rattle.rl_app.specs.Answers.{Reports};
@@ -10,14 +9,15 @@ ghost use Rattle.rl_app.specs.Steps.{IsStepsReport};
 
 use crate::answer::{Answer, Status};
 use crate::input::read_script;
-use crate::report::steps_report;
+use crate::report::print_run;
 use crate::run::Run;
 use crate::serve::{Command, serve};
 use rl_base::limit::SCRIPT;
-use rl_base::list::Seq;
+use rl_base::list::{Bytes, Seq};
 use rl_base::memory::Memory;
 use rl_io::sink::Sink;
 use rl_io::source::Source;
+use rl_report::report::Title;
 use rl_script::script::Script;
 use rl_tables::layout::Layout;
 use rl_txn::item::{Items, apply};
@@ -48,16 +48,16 @@ impl Command for StepsCommand {
 
     fn answer(&mut self, alloc: Global, input: &[u8]) -> Result<Answer, Memory> {
         match read_script(alloc, input)? {
-            Ok(script) => Ok(Answer::report(steps_run(alloc, script)?)),
+            Ok(script) => Ok(Answer::printed(steps_run(alloc, script)?)),
             Err(refused) => Ok(refused),
         }
     }
 }
 
 /// Makes the steps of a script, and answers the report.
-fn steps_run(alloc: Global, script: Script) -> Result<String, Memory>
+fn steps_run(alloc: Global, script: Script) -> Result<Bytes, Memory>
     requires { ScriptFits script }
-    ensures { IfOk result (λ text. IsStepsReport script (string_bytes text)) }
+    ensures { IfOk result (λ text. IsStepsReport script text) }
 {
     // For the proof alone: the law of the core.
     core_serial();
@@ -76,7 +76,7 @@ fn steps_run(alloc: Global, script: Script) -> Result<String, Memory>
     } = script;
     let items = Seq::from_vec(decided);
     apply_all(&mut rows, &items)?;
-    Ok(steps_report(alloc, &refused, &items, &schema, &rows)?)
+    print_run(alloc, Title::Steps, refused, &items, &schema, &rows)
 }
 
 /// Makes the writes of some items, in order.

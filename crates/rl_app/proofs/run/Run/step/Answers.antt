@@ -1,14 +1,12 @@
-use Rattle.std.proofs.Common.{◌≡◌, ◌<◌, ◌-◌, [], subst, sym, ap, ◌∙◌, length, ◌++◌, arith, refl}
+use Rattle.std.proofs.Common.{◌≡◌, ◌<◌, ◌-◌, subst, sym, ap, ◌∙◌, length, ◌++◌, option_to_list, arith, refl}
 use Rattle.std.specs.Option.{option_copied, option_map}
-use Rattle.std.specs.Option.{option_map_or}
-use Rattle.std.specs.String.{string_bytes}
 use Rattle.std.specs.Vec.{with_item}
 use Rattle.std.proofs.lemmas.List.{get_or_default, get_or-set_same}
 use Rattle.rl_worker.specs.Acts as acts
 use Rattle.rl_worker.specs.Workers.{Steps, newly_decided, decided_item, number_of, next_of}
 use Rattle.rl_worker.specs.Opening.{item_seen, setting_of}
 use Rattle.rl_app.specs.Running.{IsRun}
-use Rattle.rl_app.specs.Texts.{refused_text}
+use Rattle.rl_app.specs.Steps.{refused_line}
 use Rattle.rl_app.proofs.Stepping.{fits, stands, number, epoch, turned, stayed, after, worker_at, first_is, in_first, both_ok}
 use Rattle.rl_app.proofs.run.Run.step.Goals as goal
 
@@ -43,10 +41,10 @@ returns c = λ core is.
     subst (λ n. Steps tables x c.step.new.self c.step.new.words c.in_ok-moved.moved core (acts.step (setting_of tables lists 1) core n)) num
     (subst (λ e. Steps tables x c.step.new.self c.step.new.words c.in_ok-moved.moved core (acts.step (setting_of tables lists e) core (number_of x))) one t0) in
     let seen : c.in_ok-item.item ≡ option_map (item_seen 1) t.item = item ∙ t.seen ∙ ap (λ e. option_map (item_seen e) t.item) one in
-    let text = c.in_ok-push_refusal.ensures ∙ ap (λ q. string_bytes run.refused ++ option_map_or (refused_text tables k q) c.in_ok-moved.moved.refused []) (c.next-index.ensures ∙ ap next_of one_is) in
+    let lines = c.in_ok-push_refusal.ensures.lines ∙ ap (λ q. run.refused ++ option_to_list (option_map (refused_line tables k q) c.in_ok-moved.moved.refused)) (c.next-index.ensures ∙ ap next_of one_is) in
     both_ok c.join.result c.join.ensures.sorted (c.join.ensures.joined core.decided t.item is.decided seen (in_first tables x t.item one t.of_item)) (λ sorted joins.
-    subst (IsRun tables lists (record { words = c.step.new.words; workers = with_item run.workers (k - 1) c.step.new.self; decided = c.join.new.decided; refused = c.push_refusal.new.out }))
+    subst (IsRun tables lists (record { words = c.step.new.words; workers = with_item run.workers (k - 1) c.step.new.self; decided = c.join.new.decided; refused = c.push_refusal.new.lines }))
     (sym (turned tables lists run core is k c.requires.first c.requires.last x c.index_mut.ensures.value c.if-self-ge-END_SEQ.false))
     (after tables lists run core is k c.requires.first c.requires.last x c.index_mut.ensures.value c.step.new.words c.step.new.self c.in_ok-moved.moved (acts.step (setting_of tables lists 1) core k) t
-    (record { words = c.step.new.words; workers = with_item run.workers (k - 1) c.step.new.self; decided = c.join.new.decided; refused = c.push_refusal.new.out }) refl refl
-    c.in_ok-moved.ensures.fits c.in_ok-moved.ensures.records joins sorted text))
+    (record { words = c.step.new.words; workers = with_item run.workers (k - 1) c.step.new.self; decided = c.join.new.decided; refused = c.push_refusal.new.lines }) refl refl
+    c.in_ok-moved.ensures.fits c.in_ok-moved.ensures.records joins sorted lines c.in_ok-push_refusal.ensures.named))
