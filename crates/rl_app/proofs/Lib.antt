@@ -1,5 +1,6 @@
 pub mod Ranges
 pub mod Followed
+pub mod Generated
 pub mod Opened
 pub mod Reported
 pub mod Runs

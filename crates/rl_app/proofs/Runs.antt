@@ -1,5 +1,5 @@
 -- Items by seq, and workers in their places.
-use Rattle.std.proofs.Common.{◌≡◌, ℕ, zero, suc, ◌+◌, ◌-◌, ◌*◌, ◌^◌, ◌<◌, ◌≤◌, List, [], ◌∷◌, ◌++◌, length, get_or, slice_get, true, false, Some, refl, sym, ap, subst, arith}
+use Rattle.std.proofs.Common.{◌≡◌, ℕ, zero, suc, ◌-◌, ◌*◌, ◌^◌, ◌<◌, ◌≤◌, List, [], ◌∷◌, ◌++◌, length, get_or, slice_get, true, false, Some, refl, sym, ap, subst, arith}
 use Rattle.std.specs.List.{insert}
 use Rattle.rl_base.proofs.Tests.{lt_true, lt_false}
 use Rattle.rl_txn.specs.declared.item.Item.{Item}

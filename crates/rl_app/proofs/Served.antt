@@ -1,6 +1,5 @@
 -- How an answer is written, and a call served.
 use Rattle.std.proofs.Common.{◌≡◌, ℕ, ◌<◌, ◌≤◌, ◌⊎◌, inl, inr, List, [], length, Option, Some, None, IfSome, IfOk, MatchResult, Result, Ok, Err, refl, sym, subst, arith}
-use Rattle.std.specs.String.{string_bytes}
 use Rattle.rl_base.specs.declared.memory.Memory.{Memory}
 use Rattle.rl_app.specs.declared.answer.Answer.{Answer}
 use Rattle.rl_app.specs.Serve.{Side, FaultsRose, memory_line, Delivers, Writes, Reads, Serves}
@@ -12,15 +11,15 @@ kept sink composed text status (inr cut) fine = absurd (fine cut.1)
 
 -- what was composed is written
 pub writes : (A : ℕ → List ℕ → Type 0) (sink : Side) (answer : Result Answer Memory) (status : ℕ)
-    → IfOk answer (λ a. A a.status.code (string_bytes a.text))
-    → MatchResult answer (λ a. Delivers sink a.status.code (string_bytes a.text) status) (λ _. Delivers sink 7 memory_line status)
+    → IfOk answer (λ a. A a.status.code a.text)
+    → MatchResult answer (λ a. Delivers sink a.status.code a.text status) (λ _. Delivers sink 7 memory_line status)
     → Writes A sink status
 writes A sink (Ok a) status composes delivers = record {
   composed = a.status.code;
-  text = string_bytes a.text;
+  text = a.text;
   composes = inl composes;
   delivers = delivers;
-  complete = λ fine. inl (subst (λ n. A n (string_bytes a.text)) (sym (kept sink a.status.code (string_bytes a.text) status delivers fine)) composes);
+  complete = λ fine. inl (subst (λ n. A n a.text) (sym (kept sink a.status.code a.text status delivers fine)) composes);
 }
 writes A sink (Err memory) status composes delivers = record {
   composed = 7;

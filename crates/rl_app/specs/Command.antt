@@ -1,17 +1,22 @@
 -- The words of the program.
-use Rattle.std.specs.Prelude.{ℕ, List, [], ◌∷◌, Option, Some, None, codes, String, if◌then◌else◌}
+use Rattle.std.specs.Prelude.{ℕ, List, [], ◌∷◌, Option, Some, None, option_map, codes, String, if◌then◌else◌}
 use Rattle.std.specs.Global.{Global}
 use Rattle.std.specs.Str.{bytes_eq}
 use Rattle.std.specs.String.{string_bytes}
 use Rattle.rl_app.specs.declared.command.Form.{Form}
-use Rattle.rl_app.specs.declared.command.Form.TheVariants.{Serial, Steps}
+use Rattle.rl_app.specs.declared.command.Form.TheVariants.{Serial, Steps, GenScript}
+use Rattle.rl_app.specs.Gen.{gen_sizes}
 
--- the form that some words have: one word, `serial` or `steps`
+-- the form of one word: `serial` or `steps`
+abbrev pub plain_form : List ℕ → Option Form
+plain_form word =
+    if bytes_eq word (codes "serial") then Some Serial
+    else (if bytes_eq word (codes "steps") then Some Steps else None)
+
+-- the form that some words have
 abbrev pub form_of : List (String Global) → Option Form
-form_of (word ∷ []) =
-    if bytes_eq (string_bytes word) (codes "serial") then Some Serial
-    else (if bytes_eq (string_bytes word) (codes "steps") then Some Steps else None)
-form_of words = None
+form_of (word ∷ []) = plain_form (string_bytes word)
+form_of words = option_map GenScript (gen_sizes (codes "script") words)
 
 -- the line of words that have no form
 abbrev pub usage_line : List ℕ

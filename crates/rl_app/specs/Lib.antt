@@ -1,5 +1,6 @@
 pub mod Answers
 pub mod Command
+pub mod Gen
 pub mod Running
 pub mod Runs
 pub mod Serial

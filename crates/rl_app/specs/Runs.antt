@@ -1,5 +1,5 @@
 -- The core that the steps of a script make.
-use Rattle.std.specs.Prelude.{ℕ, List, [], replicate, ◌==◌, if◌then◌else◌}
+use Rattle.std.specs.Prelude.{List, [], replicate, ◌==◌, if◌then◌else◌}
 use Rattle.std.specs.List.{flat_map}
 use Rattle.rl_value.specs.Tables.{record_count}
 use Rattle.rl_events.specs.declared.event.Event.{Event}

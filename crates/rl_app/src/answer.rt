@@ -7,6 +7,7 @@ ghost use Rattle.rl_app.specs.Answers.{kind_text, fault_line};
 ghost use Rattle.rl_app.specs.Serve.{Delivers, limit_line, memory_line, side};
 
 use rl_base::limit::LimitName;
+use rl_base::list::Bytes;
 use rl_base::memory::Memory;
 use rl_events::kind::Kind;
 use rl_io::sink::{Sink, write_whole};
@@ -24,12 +25,20 @@ pub struct Status {
 #[derive(Drop)]
 pub struct Answer {
     pub status: Status,
-    pub text: String,
+    pub text: Bytes,
 }
 
 impl Answer {
     /// A report: status 0 with this text.
     pub fn report(text: String) -> Answer
+        ensures status { result.status.code ≡ 0 }
+        ensures text { result.text ≡ string_bytes text }
+    {
+        Answer::line(0, text)
+    }
+
+    /// What is printed for status 0.
+    pub fn printed(text: Bytes) -> Answer
         ensures status { result.status.code ≡ 0 }
         ensures text { result.text ≡ text }
     {
@@ -38,26 +47,34 @@ impl Answer {
             text,
         }
     }
+
+    /// A status with its text.
+    pub fn line(code: u8, text: String) -> Answer
+        ensures status { result.status.code ≡ code }
+        ensures text { result.text ≡ string_bytes text }
+    {
+        Answer {
+            status: Status { code },
+            text: Bytes::from_vec(text.into_bytes()),
+        }
+    }
 }
 
 /// The answer at the first fault of an input.
 pub fn fault_answer(alloc: Global, line: u32, kind: Kind) -> Result<Answer, Memory>
     ensures status { IfOk result (λ answer. answer.status.code ≡ 3) }
-    ensures text { IfOk result (λ answer. string_bytes answer.text ≡ fault_line line kind) }
+    ensures text { IfOk result (λ answer. answer.text ≡ fault_line line kind) }
 {
     let mut text = format!(in alloc; "fault line {line} ")?;
     text.push_str(kind_name(kind))?;
     text.push_str("\n")?;
-    Ok(Answer {
-        status: Status { code: 3 },
-        text,
-    })
+    Ok(Answer::line(3, text))
 }
 
 /// The answer where a limit of the language is passed.
 pub fn passed_answer(alloc: Global, name: LimitName, limit: u32) -> Result<Answer, Memory>
     ensures status { IfOk result (λ answer. answer.status.code ≡ 4) }
-    ensures text { IfOk result (λ answer. string_bytes answer.text ≡ limit_line (limit_name name) limit) }
+    ensures text { IfOk result (λ answer. answer.text ≡ limit_line (limit_name name) limit) }
 {
     limit_answer(alloc, name_of_limit(name), limit)
 }
@@ -65,25 +82,22 @@ pub fn passed_answer(alloc: Global, name: LimitName, limit: u32) -> Result<Answe
 /// The answer where a limit is passed, whatever its name.
 pub fn limit_answer(alloc: Global, name: &str, limit: u32) -> Result<Answer, Memory>
     ensures status { IfOk result (λ answer. answer.status.code ≡ 4) }
-    ensures text { IfOk result (λ answer. string_bytes answer.text ≡ limit_line name.now limit) }
+    ensures text { IfOk result (λ answer. answer.text ≡ limit_line name.now limit) }
 {
     let mut text = String::from_str(alloc, "limit ")?;
     text.push_str(name)?;
     write!(&mut text, " {limit}\n")?;
-    Ok(Answer {
-        status: Status { code: 4 },
-        text,
-    })
+    Ok(Answer::line(4, text))
 }
 
 /// Writes an answer, or that there was no memory for it.
 pub fn write_answer<K: Sink>(sink: &mut K, answer: Result<Answer, Memory>) -> Status
     ensures { MatchResult answer
-        (λ a. Delivers (side K.held K.faults sink.old sink.new) a.status.code (string_bytes a.text) result.code)
+        (λ a. Delivers (side K.held K.faults sink.old sink.new) a.status.code a.text result.code)
         (λ _. Delivers (side K.held K.faults sink.old sink.new) 7 memory_line result.code) }
 {
     match answer {
-        Ok(answer) => deliver(sink, answer.status, answer.text.as_bytes()),
+        Ok(answer) => deliver(sink, answer.status, answer.text.as_slice()),
         Err(Memory) => deliver(sink, Status { code: 7 }, b"memory\n"),
     }
 }

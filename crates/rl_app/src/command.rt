@@ -1,14 +1,17 @@
 //! The top call: which command some words are.
 
-ghost use Rattle.std.specs.Prelude.{◌≡◌, ◌⊎◌, ℕ, List, Some, None};
+ghost use Rattle.std.specs.Prelude.{◌≡◌, ◌⊎◌, ℕ, List, Some, None, IfSome};
 ghost use Rattle.rl_app.specs.declared.command.Form.{Form};
 ghost use Rattle.rl_app.specs.Answers.{Reports};
-ghost use Rattle.rl_app.specs.Command.{form_of, usage_line};
+ghost use Rattle.rl_app.specs.declared.generator.Sizes.{Sizes};
+ghost use Rattle.rl_app.specs.Command.{form_of, plain_form, usage_line};
+ghost use Rattle.rl_app.specs.Gen.{GivesScript, SomeEach};
 ghost use Rattle.rl_app.specs.Serial.{IsReport};
-ghost use Rattle.rl_app.specs.Serve.{Delivers, Serves, side};
+ghost use Rattle.rl_app.specs.Serve.{Delivers, Serves, Writes, side};
 ghost use Rattle.rl_app.specs.Steps.{IsStepsReport};
 
 use crate::answer::{Status, deliver};
+use crate::generator::{Sizes, gen_script, gen_sizes};
 use crate::serial::serial;
 use crate::steps::steps;
 use rl_base::limit::SCRIPT;
@@ -17,7 +20,7 @@ use rl_io::source::Source;
 use std::alloc::Global;
 
 /// What is written where the words have no form.
-const USAGE: &str =
+pub const USAGE: &str =
     "usage: rolis serial, steps, sim, live, check, gen script S N W R, gen run S N W R\n";
 
 /// A form that the words of the program can have.
@@ -25,16 +28,18 @@ const USAGE: &str =
 pub enum Form {
     Serial,
     Steps,
+    /// `gen script`, with what is generated.
+    GenScript(Sizes),
 }
 
-/// Does all that the program does: the one word `serial` or `steps` is the command of this name, and all
-/// other words are status 2 (6 where its line can't be written).
+/// Does all that the program does. The one word `serial` or `steps` is the command of this name, and
+/// `gen script SEED NODES WORKERS REQUESTS` is another; all other words are status 2.
 ///
-/// Status 0 with the report; 2 where the words are no command, and then nothing is read; 3 where
-/// the input breaks a rule of the language; 4 where it has more than 4,194,304 bytes or passes a
-/// limit of the language; 5 where a read failed; 6 where a write failed, with a prefix of the text
-/// written; 7 where there was no memory. At 2, 3, 4, 5 and 7 the one line of the status is
-/// written.
+/// Status 0 with the report, or the generated script; 2 where the words are no command; 3 where
+/// the input breaks a rule of the language; 4 where it has more than 4,194,304 bytes, or a limit is
+/// passed; 5 where a read failed; 6 where a write failed, with a prefix of the text written; 7 where
+/// there was no memory. At 2, 3, 4, 5 and 7 the one line of the status is written. Where the words are
+/// no command, and by `gen`, nothing is read.
 pub fn rolis<S: Source, K: Sink>(
     alloc: Global,
     words: &[String],
@@ -49,26 +54,37 @@ pub fn rolis<S: Source, K: Sink>(
         (side S.left S.faults source.old source.new)
         (side K.held K.faults sink.old sink.new)
         result.code }
+    ensures gen_script { (sizes : Sizes) → form_of words.now ≡ Some (Form.GenScript sizes) → (source.new ≡ source.old)
+        × Writes (GivesScript sizes) (side K.held K.faults sink.old sink.new) result.code }
     ensures usage { form_of words.now ≡ None → (source.new ≡ source.old)
         × Delivers (side K.held K.faults sink.old sink.new) 2 usage_line result.code }
 {
     match form_of(words) {
         Some(Form::Serial) => serial(alloc, source, sink),
         Some(Form::Steps) => steps(alloc, source, sink),
+        Some(Form::GenScript(sizes)) => gen_script(alloc, sizes, sink),
         None => deliver(sink, Status { code: 2 }, USAGE.as_bytes()),
     }
 }
 
 /// The form that some words have, if they have one.
 fn form_of(words: &[String]) -> Option<Form>
-    ensures { result ≡ form_of words.now }
+    ensures form { result ≡ form_of words.now }
+    ensures some { (sizes : Sizes) → result ≡ Some (Form.GenScript sizes) → SomeEach sizes }
 {
     match words {
-        [word] => match word.as_str() {
-            "serial" => Some(Form::Serial),
-            "steps" => Some(Form::Steps),
-            _ => None,
-        },
+        [word] => plain_form(word),
+        _ => gen_sizes("script", words).map(Form::GenScript),
+    }
+}
+
+/// The form of one word.
+fn plain_form(word: &str) -> Option<Form>
+    ensures { result ≡ plain_form word.now }
+{
+    match word {
+        "serial" => Some(Form::Serial),
+        "steps" => Some(Form::Steps),
         _ => None,
     }
 }

@@ -1,13 +1,12 @@
 //! What a call reads: its input, and the script that the input is.
 
 ghost use Rattle.std.specs.Prelude.{◌≡◌, ◌≤◌, ◌<◌, ◌-◌, ◌^◌, ◌⊎◌, ℕ, Ok, IfOk, IsErrAnd, MatchResult, length};
-ghost use Rattle.std.specs.String.{string_bytes};
 ghost use Rattle.rl_script.specs.Fits.{ScriptFits};
 ghost use Rattle.rl_script.specs.Read.{read};
 ghost use Rattle.rl_app.specs.Answers.{Refuses};
 ghost use Rattle.rl_app.specs.Serve.{Stops, WasRead, side};
 
-use crate::answer::{Answer, Status, fault_answer, limit_answer, passed_answer};
+use crate::answer::{Answer, fault_answer, limit_answer, passed_answer};
 use rl_base::list::Bytes;
 use rl_base::memory::Memory;
 use rl_io::source::{ReadError, Source, read_all};
@@ -23,15 +22,13 @@ pub fn read_input<S: Source>(
 ) -> Result<Result<Bytes, Answer>, Memory>
     ensures { IfOk result (λ read. MatchResult read
         (λ input. WasRead (side S.left S.faults source.old source.new) input × (length input ≤ limit))
-        (λ answer. Stops limit (side S.left S.faults source.old source.new) answer.status.code (string_bytes answer.text))) }
+        (λ answer. Stops limit (side S.left S.faults source.old source.new) answer.status.code answer.text)) }
 {
     match read_all(alloc, source, limit as usize) {
         Ok(input) => Ok(Ok(input)),
         Err(ReadError::ReadFault) => {
-            Ok(Err(Answer {
-                status: Status { code: 5 },
-                text: String::from_str(alloc, "read fault\n")?,
-            }))
+            let text = String::from_str(alloc, "read fault\n")?;
+            Ok(Err(Answer::line(5, text)))
         }
         Err(ReadError::TooLong { .. }) => Ok(Err(limit_answer(alloc, "input", limit)?)),
         Err(ReadError::Memory) => Err(Memory),
@@ -43,7 +40,7 @@ pub fn read_script(alloc: Global, input: &[u8]) -> Result<Result<Script, Answer>
     requires { length input.now < 2 ^ 32 - 1 }
     ensures { IfOk result (λ said. MatchResult said
         (λ script. (read input.now ≡ Ok script) × ScriptFits script)
-        (λ answer. IsErrAnd (read input.now) (λ wrong. Refuses wrong.0 wrong.1 answer.status.code (string_bytes answer.text)))) }
+        (λ answer. IsErrAnd (read input.now) (λ wrong. Refuses wrong.0 wrong.1 answer.status.code answer.text))) }
 {
     match parse(alloc, input) {
         Ok(script) => Ok(Ok(script)),

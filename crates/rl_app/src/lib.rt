@@ -3,6 +3,7 @@
 
 pub mod answer;
 pub mod command;
+pub mod generator;
 mod input;
 mod report;
 mod run;

@@ -39,7 +39,7 @@ pub fn serial<S: Source, K: Sink>(alloc: Global, source: &mut S, sink: &mut K) -
 struct SerialCommand;
 
 impl Command for SerialCommand {
-    ghost answers = { λ _. Reports IsReport };
+    ghost answers = { λ _ _. Reports IsReport };
 
     fn answer(&mut self, alloc: Global, input: &[u8]) -> Result<Answer, Memory> {
         match read_script(alloc, input)? {

@@ -1,7 +1,6 @@
 //! How a call of a command that reads is served.
 
 ghost use Rattle.std.specs.Prelude.{◌≡◌, ◌<◌, ◌≤◌, ◌-◌, ◌^◌, ◌⊎◌, ℕ, List, IfOk, MatchResult, length};
-ghost use Rattle.std.specs.String.{string_bytes};
 ghost use Rattle.rl_app.specs.Serve.{IsAnswered, Reads, Serves, side};
 
 use crate::answer::{Answer, Status, write_answer};
@@ -13,13 +12,13 @@ use std::alloc::Global;
 
 /// A command that answers an input.
 pub trait Command {
-    /// The status and the text that it answers to an input, by what its value is afterwards.
-    ghost answers: { Self → List ℕ → ℕ → List ℕ → Type 0 };
+    /// The status and the text that it answers to an input, by its value before and after.
+    ghost answers: { Self → Self → List ℕ → ℕ → List ℕ → Type 0 };
 
     /// Answers an input.
     fn answer(&mut self, alloc: Global, input: &[u8]) -> Result<Answer, Memory>
         requires { length input.now < 2 ^ 32 - 1 }
-        ensures answers { IfOk result (λ answer. answers self.new input.now answer.status.code (string_bytes answer.text)) }
+        ensures answers { IfOk result (λ answer. answers self.old self.new input.now answer.status.code answer.text) }
         ensures answered { IfOk result (λ answer. IsAnswered answer.status.code) };
 }
 
@@ -33,7 +32,7 @@ pub fn serve<C: Command, S: Source, K: Sink>(
     sink: &mut K,
 ) -> Status
     requires { limit < 2 ^ 32 - 1 }
-    ensures { Serves (C.answers command.new) limit
+    ensures { Serves (C.answers command.old command.new) limit
         (side S.left S.faults source.old source.new)
         (side K.held K.faults sink.old sink.new)
         result.code }
@@ -50,9 +49,9 @@ fn compose<C: Command, S: Source>(
     source: &mut S,
 ) -> Result<Answer, Memory>
     requires { limit < 2 ^ 32 - 1 }
-    ensures { IfOk result (λ answer. Reads (C.answers command.new) limit
+    ensures { IfOk result (λ answer. Reads (C.answers command.old command.new) limit
         (side S.left S.faults source.old source.new)
-        answer.status.code (string_bytes answer.text)) }
+        answer.status.code answer.text) }
 {
     match read_input(alloc, source, limit)? {
         Ok(input) => command.answer(alloc, input.as_slice()),

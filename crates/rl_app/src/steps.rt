@@ -44,7 +44,7 @@ pub fn steps<S: Source, K: Sink>(alloc: Global, source: &mut S, sink: &mut K) ->
 struct StepsCommand;
 
 impl Command for StepsCommand {
-    ghost answers = { λ _. Reports IsStepsReport };
+    ghost answers = { λ _ _. Reports IsStepsReport };
 
     fn answer(&mut self, alloc: Global, input: &[u8]) -> Result<Answer, Memory> {
         match read_script(alloc, input)? {

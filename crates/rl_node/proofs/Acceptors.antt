@@ -69,6 +69,7 @@ module _ (setup : Setup) (x : Acceptor) (fits : AcceptorFits setup x) (s : ℕ) 
     known = by_stream (λ t k. IsFront k.log (log_at r.known t)) (record { ballot = ballot; log = log }) front (λ t there other. f.known t there);
     played_streams = f.played_streams;
     begins = f.begins;
+    rows = f.rows;
   }
 
 -- ---- a Prepare ----
@@ -77,7 +78,7 @@ pub prepared_fits : (setup : Setup) (x : Acceptor) (e : ℕ) → AcceptorFits se
 prepared_fits setup x e f few = record { streams = f.streams; promised = few; each = f.each }
 
 pub prepared_keeps : (setup : Setup) (x : Acceptor) (e : ℕ) → KeepsRunning setup x (prepared x e)
-prepared_keeps setup x e r f = record { known_streams = f.known_streams; known = f.known; played_streams = f.played_streams; begins = f.begins }
+prepared_keeps setup x e r f = record { known_streams = f.known_streams; known = f.known; played_streams = f.played_streams; begins = f.begins; rows = f.rows }
 
 -- ---- a Sync ----
 

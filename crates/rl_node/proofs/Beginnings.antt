@@ -7,6 +7,7 @@ use Rattle.rl_paxos.specs.Acceptors.{Acceptor, nothing_kept, new_acceptor, kept_
 use Rattle.rl_replay.specs.Standing.{BeginsWithPlayed}
 use Rattle.rl_replay.specs.Laws.{new_replica}
 use Rattle.rl_replay.specs.Replay.{Replaying}
+use Rattle.rl_value.specs.Fits.{RowsFit}
 use Rattle.rl_value.specs.Rows.{Rows}
 use Rattle.rl_txn.specs.declared.batch.Batch.{Batch}
 use Rattle.rl_nodes.specs.Calls.{Standing}
@@ -61,6 +62,7 @@ module _ (setup : Setup) (acceptor : Acceptor) (r : Running) (new : IsNew setup 
     known = λ s is. subst (IsFront (kept_log acceptor s)) (sym (log_is s)) (record { within = omega arith; is = refl });
     played_streams = ap (λ replica. length replica.played) new.replica ∙ length-replicate (length (replicate setup.workers (let none : List Batch = [] in none))) 0 ∙ length-replicate setup.workers [];
     begins = λ s is. subst (BeginsWithPlayed r.replica s) (sym (log_is s)) (new.begins s is);
+    rows = λ h. subst (RowsFit setup.program.tables) (sym (ap (λ (replica : Replaying). replica.rows) new.replica)) h;
   }
 
   -- a node that has just begun, with any acceptor

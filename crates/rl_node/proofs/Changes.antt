@@ -23,7 +23,7 @@ module _ (setup : Setup) (acceptor acceptor' : Acceptor) (keeps : KeepsRunning s
       → (p : code.Part) (part : Part) → StandsPart setup p part
       → StandsIn setup acceptor' (with_part_in phase p) (well (record x { acceptor = acceptor'; part = part }))
   changed_in (Up r) x up s p part stands = record {
-    fits = let f = keeps r s.fits in record { known_streams = f.known_streams; known = f.known; played_streams = f.played_streams; begins = f.begins };
+    fits = let f = keeps r s.fits in record { known_streams = f.known_streams; known = f.known; played_streams = f.played_streams; begins = f.begins; rows = f.rows };
     part = part;
     stands = stands;
     is =

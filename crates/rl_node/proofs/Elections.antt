@@ -74,6 +74,7 @@ module _ (setup : Setup) (a : ℕ) (n : Node) (x : NodeState) (s : Stands setup 
           known = f.known;
           played_streams = f.played_streams;
           begins = f.begins;
+          rows = f.rows;
         }) (part.Stands c) (StandsFor (candidate_of (cluster_of setup) e)) (ap StandsFor (sym candidate), stands_fits));
     hands_out = sends_out (stands setup a x e).node (to_each setup (λ to. Prepare a to e)) out
         (subst (λ b. IsSending (map (λ to. Prepare b to e) (range_with_len 1 setup.nodes)) out) s.number sends);

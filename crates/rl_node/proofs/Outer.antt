@@ -32,6 +32,10 @@ with_answer x f = record { node = x; failed = f }
 well_by : (x : Standing) → x.failed ≡ None → x ≡ well x.node
 well_by x e = ap (λ f. with_answer x.node f) e
 
+-- a node that repeats no answer
+pub stands_well : (setup : Setup) (a : ℕ) (n : Node) (x : Standing) → None ≡ failed_in n.phase → Stands setup a n x → Stands setup a n (well x.node)
+stands_well setup a n x none s = subst (Stands setup a n) (well_by x (failed_is setup a n x s ∙ sym none)) s
+
 -- a node that repeats an answer
 abbrev failing : NodeState → NodeError → Standing
 failing x f = record { node = x; failed = Some f }
@@ -41,7 +45,7 @@ noting_in : (setup : Setup) (acceptor : Acceptor) (phase : Phase) (x : NodeState
     → StandsIn setup acceptor phase (well x)
     → StandsIn setup acceptor (with_failed_in phase (Some f)) (record { node = x; failed = Some f })
 noting_in setup acceptor (Up r) x f up s = record {
-  fits = record { known_streams = s.fits.known_streams; known = s.fits.known; played_streams = s.fits.played_streams; begins = s.fits.begins };
+  fits = record { known_streams = s.fits.known_streams; known = s.fits.known; played_streams = s.fits.played_streams; begins = s.fits.begins; rows = s.fits.rows };
   part = s.part;
   stands = s.stands;
   is = ap (λ (y : Standing). failing y.node f) s.is;
@@ -156,3 +160,15 @@ pub fails_by : (setup : Setup) (a : ℕ) (n : Node) (x : NodeState) → is_runni
 fails_by setup a n x up s answer result is =
     let p = err_from_is_err_and result is in
     subst (Tries setup a n n x answer) (sym p.1) (fails_still setup a n x up s answer p.0 p.2)
+
+-- a node that repeats no answer, and its call that ran out of memory
+module _ (setup : Setup) (a : ℕ) (n : Node) (x : Standing) (none : None ≡ failed_in n.phase) (s : Stands setup a n x) where
+  pub not_failed : x.failed ≡ None
+  not_failed = failed_is setup a n x s ∙ sym none
+
+  pub refuses_memory : (n' n2 : Node) (answer : Answer) → HasNot setup a n n' x.node answer Memory → n2 ≡ with_failed n' (Some Memory)
+      → Refuses setup a n2 x answer Memory
+  refuses_memory n' n2 answer h e =
+      subst (λ m. Refuses setup a m x answer Memory) (sym e)
+      (subst (λ y. Refuses setup a (with_failed n' (Some Memory)) y answer Memory) (sym (well_by x not_failed))
+      (refuses setup a n n' x.node answer Memory (stands_well setup a n x none s) h))

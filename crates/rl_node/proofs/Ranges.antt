@@ -24,7 +24,7 @@ use Rattle.rl_nodes.proofs.Deliveries.{got_in}
 use Rattle.rl_nodes.proofs.Telling.{tests_tell}
 use Rattle.rl_node.proofs.Keeps.{all_from, stamp_list}
 
-in_at : {A : Type 0} (xs : List A) (k : ℕ) (d : A) → k < length xs → In (get_or xs k d) xs
+pub in_at : {A : Type 0} (xs : List A) (k : ℕ) (d : A) → k < length xs → In (get_or xs k d) xs
 in_at [] k d l = absurd (omega (arith, l))
 in_at (x ∷ xs) zero d l = inl refl
 in_at (x ∷ xs) (suc k) d l = inr (in_at xs k d (omega (arith, l)))

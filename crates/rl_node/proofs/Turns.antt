@@ -3,33 +3,35 @@ use Rattle.std.proofs.Common.{◌≡◌, ◌≢◌, ℕ, zero, suc, ◌+◌, ◌
 use Rattle.std.specs.Prelude.{slice_get, slice_set, slice_index_or}
 use Rattle.std.proofs.lemmas.Bool.{cases_eq}
 use Rattle.rl_base.proofs.Members.{In, in_map, all_in}
-use Rattle.rl_base.proofs.Tests.{lt_true, both_true}
+use Rattle.rl_base.proofs.Tests.{lt_true, lt_false, both_true}
 use Rattle.rl_election.specs.World.{no_stream}
 use Rattle.rl_families.specs.Logs.{stamps_along}
 use Rattle.rl_txn.specs.declared.op.Op.{Op}
 use Rattle.rl_value.specs.Tables.{Table}
-use Rattle.rl_worker.specs.Acts.{Core, Turn, Step, phase_of, is_done, may, micro, settle, begin, step, turn, after_turns, opening_core}
+use Rattle.rl_worker.specs.Acts.{Core, CoreRefusal, Turn, Step, phase_of, is_done, may, micro, settle, begin, step, turn, after_turns, opening_core}
 use Rattle.rl_worker.specs.Items.{CoreItem, insert_by_stamp}
 use Rattle.rl_worker.specs.Laws.{IsFalling, stamps_by, StampsRise, ItemsStayInRange, StepsTellNews}
 use Rattle.rl_worker.specs.OneTurn.{SeenInRange, TellsNews, newly_ended, newly_refused}
 use Rattle.rl_worker.specs.Told.{refused}
 use Rattle.rl_base.specs.declared.memory.Memory.{Memory}
-use Rattle.rl_node.specs.Stepping.{HasStepped}
+use Rattle.rl_node.specs.Stepping.{HasStepped, RefusesOwn}
 use Rattle.rl_worker.specs.Opening.{OpenLeader, core_after, setting_of, item_seen, items_seen, opening_recs, at_rest}
 use Rattle.rl_worker.specs.Phases.{Rest, Setting}
 use Rattle.rl_worker.specs.Workers as worker
-use Rattle.rl_worker.specs.Workers.{Steps, WorkerFits, RecordsFit, with_item, stamp_made, IsItemOf, number_of, epoch_of, decided_item, either, newly_decided, phase_of_worker, stamp_next, act_of_step}
+use Rattle.rl_worker.specs.Workers.{Steps, WorkerFits, RecordsFit, with_item, stamp_made, IsItemOf, number_of, epoch_of, next_of, decided_item, either, newly_decided, phase_of_worker, stamp_next, act_of_step}
 use Rattle.rl_worker.specs.declared.act.Moved.{Moved}
 use Rattle.rl_worker.specs.declared.worker.Worker.{Worker}
 use Rattle.rl_nodes.specs.Batches.{batches_of}
 use Rattle.rl_nodes.specs.Openings.{opening_leader}
 use Rattle.rl_nodes.specs.Setups.{Setup}
+use Rattle.rl_nodes.specs.Works.{request_in}
 use Rattle.rl_node.specs.Fits.{IsStream}
 use Rattle.rl_node.specs.Keeping.{KeepsStream}
 use Rattle.rl_node.specs.Standing.{IsWorkerOf, AreWorksOf, log_of, pending_in}
 use Rattle.rl_node.specs.declared.part.Lead as leads
 use Rattle.rl_node.specs.declared.part.Works.{Works}
 use Rattle.rl_node.proofs.Keeps.{end_stamp, made_on, keeps_step, keeps_other, unproposed_more}
+use Rattle.rl_node.proofs.Requests.{at_request}
 
 -- ---- turns one after another ----
 
@@ -43,7 +45,7 @@ own_setting o = setting_of o.tables o.lists o.epoch
 pub core_more : (o : OpenLeader) (ts : List Turn) (t : Turn) → core_after o (ts ++ t ∷ []) ≡ turn (own_setting o) (core_after o ts) t
 core_more o ts t = after_more (own_setting o) (opening_core (own_setting o) (opening_recs o.tables o.rows o.stamps) (at_rest o.firsts)) ts t
 
-may_move : (S : Setting) (c : Core) (w : ℕ) → 1 ≤ w → w < length c.workers → c.next < S.last → may S c w ≡ true
+pub may_move : (S : Setting) (c : Core) (w : ℕ) → 1 ≤ w → w < length c.workers → c.next < S.last → may S c w ≡ true
 may_move S c w first there left =
     both_true (nat_lt 0 w) (nat_lt w (length c.workers) && nat_lt c.next S.last) (lt_true 0 w first)
     (both_true (nat_lt w (length c.workers)) (nat_lt c.next S.last) (lt_true w (length c.workers) there) (lt_true c.next S.last left))
@@ -237,6 +239,28 @@ module _ (rise : StampsRise) (in_range : ItemsStayInRange) (setup : Setup) (l ne
         keeps = keeps_now;
       }
 
+-- ---- what a step tells ----
+
+-- one more element or none before a list is the first of what results, where that is longer
+newest : {X : Type 0} (o : Option X) (xs ys : List X) → ys ≡ option_to_list o ++ xs → (if nat_lt (length xs) (length ys) then slice_get ys 0 else None) ≡ o
+newest None xs ys e = rw (e, lt_false (length xs) (length xs) (omega arith)) refl
+newest (Some x) xs ys e = rw (e, lt_true (length xs) (length (x ∷ xs)) (omega arith)) refl
+
+-- the next seq of the code is the core's next stamp in its epoch
+pub next_is : (setup : Setup) (l : leads.Lead) (works : Works) (core : Core) (w : ℕ) → IsStream setup w → AreWorksOf setup l works core
+    → core.next ≡ l.epoch * 2 ^ 40 + works.words.next
+next_is setup l works core w there a =
+    let own = at_index works.workers.items (w - 1) (let count = a.count in omega (arith, there.0, there.1, count)) in
+    let x = a.each w own.0 there.0 own.1 in
+    x.stands.next ∙ ap (λ e. stamp_next e works.words) x.epoch
+
+-- a worker of the code is at the request at which it is in the core
+pub request_is : (setup : Setup) (l : leads.Lead) (works : Works) (core : Core) (w : ℕ) (x : Worker) → 1 ≤ w → slice_get works.workers.items (w - 1) ≡ Some x
+    → AreWorksOf setup l works core → next_of x ≡ request_in (phase_of core w)
+request_is setup l works core w x first at a =
+    let is = a.each w x first at in
+    sym (at_request setup.program.tables setup.program.lists x is.fits) ∙ ap request_in (sym is.stands.phase ∙ ap (phase_of core) is.number)
+
 -- a step of the code, by its answer
 module _ (rise : StampsRise) (items : ItemsStayInRange) (tell : StepsTellNews) (setup : Setup) (l : leads.Lead) (works works' : Works) (core : Core) (w : ℕ)
     (there : IsStream setup w) (a : AreWorksOf setup l works core) (old x : Worker)
@@ -254,15 +278,17 @@ module _ (rise : StampsRise) (items : ItemsStayInRange) (tell : StepsTellNews) (
   is_worker : IsWorkerOf setup l.epoch w works core old
   is_worker = a.each w old there.0 at
 
+  seq_is : works.words.next ≡ core.next - l.epoch * 2 ^ 40
+  seq_is = let next = next_is setup l works core w there a in omega (arith, next)
+
   told_step : (told : Moved) → Steps tables old x works'.words told core (step (setting_of tables lists (epoch_of old)) core (number_of old))
       → told.act ≡ act_of_step (setting_of tables lists (epoch_of old)) works.words.next core (number_of old)
       → WorkerFits tables lists x → RecordsFit tables works'.words.records.items → HasStepped setup l works works' core w told
   told_step told steps act fits records = record {
     stands = λ new sized h. subst (AreWorksOf setup new works') (sym turned)
         (works_step rise items setup l new works works' core w there a old x told at now layout steps' fits records left h.epoch h.streams h.pending sized);
-    ended = news.ended ∙ (λ i. option_map (item_seen (is_worker.epoch i)) (newly_ended core (sym turned i)));
-    refused = news.refused ∙ ap (λ c. option_map refused (newly_refused core c)) (sym turned);
-    act = act ∙ (λ i. act_of_step (setting_of tables lists (is_worker.epoch i)) works.words.next core (is_worker.number i));
+    tells = λ i. record { act = act_is i; refused = refused_is i; ended = ended_is i };
+    own = subst (λ c. RefusesOwn core c w) (sym turned) (own_is steps'.refusal (newest steps'.refusal core.refusals (step setting core w).refusals steps'.refusals) steps'.of_refusal);
   }
     where
       steps' : Steps tables old x works'.words told core (step setting core w)
@@ -278,6 +304,21 @@ module _ (rise : StampsRise) (items : ItemsStayInRange) (tell : StepsTellNews) (
         where
           less : (c f e n : ℕ) → c ≡ f * 2 ^ 40 + n → f ≡ e → n < 2 ^ 40 - 1 → c < e * 2 ^ 40 + (2 ^ 40 - 1)
           less c f e n p q r = omega (arith, p, q, r)
+
+      act_is : told.act ≡ act_of_step setting (core.next - l.epoch * 2 ^ 40) core w
+      act_is = act ∙ (λ i. act_of_step (setting_of tables lists (is_worker.epoch i)) works.words.next core (is_worker.number i)) ∙ ap (λ n. act_of_step setting n core w) seq_is
+
+      refused_is : told.refused ≡ option_map refused (newly_refused core (turn setting core (Step w)))
+      refused_is = news.refused ∙ ap (λ c. option_map refused (newly_refused core c)) (sym turned)
+
+      ended_is : told.ended ≡ option_map (item_seen l.epoch) (newly_ended core (turn setting core (Step w)))
+      ended_is = news.ended ∙ (λ i. option_map (item_seen (is_worker.epoch i)) (newly_ended core (sym turned i)))
+
+      own_is : (o : Option CoreRefusal) → newly_refused core (step setting core w) ≡ o → IfSome o (λ f. (f.worker ≡ number_of old) × (f.index ≡ next_of old))
+          → RefusesOwn core (step setting core w) w
+      own_is None e h = subst (λ o. IfSome o (λ f. (f.worker ≡ w) × (f.index ≡ request_in (phase_of core w)))) (sym e) tt
+      own_is (Some f) e h = subst (λ o. IfSome o (λ f. (f.worker ≡ w) × (f.index ≡ request_in (phase_of core w)))) (sym e)
+          (h.0 ∙ is_worker.number, h.1 ∙ request_is setup l works core w old there.0 at a)
 
   pub answered_step : (r : Result Moved Memory)
       → ((c : Core) → worker.Stands tables old works.words c

@@ -1,13 +1,19 @@
 -- What a leader does with an Ack, step by step. No public contract cites it.
-use Rattle.std.specs.Prelude.{◌≡◌, ℕ, ◌-◌, List, if◌then◌else◌, slice_set}
+use Rattle.std.specs.Prelude.{◌≡◌, ℕ, ◌-◌, List, [], length, if◌then◌else◌, Option, Ok, slice_set}
 use Rattle.rl_msg.specs.declared.msg.Msg.{Msg}
 use Rattle.rl_paxos.specs.Leaders.{with_ack}
 use Rattle.rl_txn.specs.declared.item.Item.{Item}
+use Rattle.rl_worker.specs.Acts.{Core}
 use Rattle.rl_nodes.specs.Answers.{Did, sending, quiet}
 use Rattle.rl_nodes.specs.Handles.{counts_ack, opens, releases}
 use Rattle.rl_nodes.specs.Nodes.{Lead, NodeState, Part, Leads, has_opened, marks_are_acknowledged}
 use Rattle.rl_nodes.specs.Setups.{Setup}
 use Rattle.rl_node.specs.Leading.{stream_of}
+use Rattle.rl_node.specs.Leads.{LeadDid}
+use Rattle.rl_node.specs.Outs.{Adds}
+use Rattle.rl_node.specs.Standing.{HasWorksOf, lead_with}
+use Rattle.rl_node.specs.declared.answer.Out.{Out}
+use Rattle.rl_node.specs.declared.answer.Sent.{Sent}
 use Rattle.rl_node.specs.declared.part.Lead as leads
 
 -- what is due for an Ack at a leader
@@ -29,3 +35,10 @@ advanced setup x before lead sends =
 pub record HasCounted (old new : leads.Lead) (s from len : ℕ) : Type 0 where
   pub streams : new.streams.items ≡ slice_set old.streams.items (s - 1) (with_ack (stream_of old s) from len)
   pub same : new ≡ record old { streams = new.streams }
+
+-- a leader whose history had so many items before went on: whatever it stood for, it did what was due
+abbrev pub HasAdvanced : Setup → (old new : leads.Lead) → (sends : List Sent) → (told : ℕ) → Out → Type 0
+HasAdvanced setup old new sends told out =
+    (core : Option Core) (x : NodeState) (before : List Item) (messages : List Msg)
+    → HasWorksOf setup old old.works core → length before ≡ told → Adds [] sends messages
+    → LeadDid setup new x (Ok (advanced setup x before (lead_with old core) messages)) out

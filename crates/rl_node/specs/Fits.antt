@@ -9,6 +9,7 @@ use Rattle.rl_paxos.specs.Logs.{Log}
 use Rattle.rl_paxos.specs.Recovery.{Promise, Candidate, promised_ballot, promised_log}
 use Rattle.rl_replay.specs.Standing.{BeginsWithPlayed}
 use Rattle.rl_txn.specs.declared.batch.Batch.{Batch}
+use Rattle.rl_value.specs.Fits.{RowsFit}
 use Rattle.rl_value.specs.Tables.{Table}
 use Rattle.rl_nodes.specs.BadMessages.{is_wrong}
 use Rattle.rl_nodes.specs.Batches.{batches_of}
@@ -47,12 +48,13 @@ pub record IsFront (log : Log) (batches : List Batch) : Type 0 where
   pub within : length batches ≤ length log
   pub is : batches ≡ batches_of (take (length batches) log)
 
--- what a node knows to be chosen, and its replica, are of what its acceptor keeps
+-- what a node knows to be chosen, and its replica, are of what its acceptor keeps; its rows fit where the opening rows do
 pub record RunningFits (setup : Setup) (x : Acceptor) (r : Running) : Type 0 where
   pub known_streams : length r.known ≡ setup.workers
   pub known : (s : ℕ) → IsStream setup s → IsFront (kept_log x s) (log_at r.known s)
   pub played_streams : length r.replica.replaying.played ≡ setup.workers
   pub begins : (s : ℕ) → IsStream setup s → BeginsWithPlayed r.replica s (log_at r.known s)
+  pub rows : RowsFit setup.program.tables setup.program.rows → RowsFit setup.program.tables r.replica.replaying.rows
 
 -- a promise to a candidate of an epoch: on each stream the ballot is below it, and the log fits the ballot
 pub record PromiseFits (setup : Setup) (e : ℕ) (p : Promise) : Type 0 where

@@ -26,3 +26,19 @@ pub record CanTake (n : Node) (m : Msg) : Type 0 where
 abbrev pub TriesToTake : (old new : Node) → Msg → Result Out NodeError → Type 0
 TriesToTake old new m result = (setup : Setup) (a : ℕ) (x : NodeState) → SetupFits setup → Stands setup a old (well x)
     → is_bad setup a x m ≡ false → MsgInRange m → Tries setup a old new x (takes setup a x m) result
+
+-- the same of a message with which a setup's sizes count
+pub record CanTakeIn (setup : Setup) (n : Node) (m : Msg) : Type 0 where
+  pub number : ℕ
+  pub node : NodeState
+  pub stands : Stands setup number n (well node)
+  pub good : is_bad setup number node m ≡ false
+  pub in_range : MsgInRange m
+
+abbrev pub TriesToTakeIn : Setup → (old new : Node) → Msg → Result Out NodeError → Type 0
+TriesToTakeIn setup old new m result = (a : ℕ) (x : NodeState) → Stands setup a old (well x)
+    → is_bad setup a x m ≡ false → MsgInRange m → Tries setup a old new x (takes setup a x m) result
+
+-- it stands for some node that answers calls
+abbrev pub IsWell : Setup → Node → Type 0
+IsWell setup n = (a : ℕ) × (x : NodeState) × Stands setup a n (well x)

@@ -13,6 +13,7 @@ use rl_msg::encode::encode_msg;
 use rl_msg::msg::Msg;
 use rl_paxos::refused::Refused;
 use rl_txn::item::Items;
+use rl_worker::act::Moved;
 use std::alloc::Global;
 
 /// A message as it is sent: to whom, and its bytes.
@@ -42,6 +43,16 @@ pub struct Out {
     pub released: Items,
 }
 
+/// What a step of a worker came to: what it did, the epoch that the node leads and the request that the worker was at, and
+/// what the node hands out. Where the node is no open leader no step was made, and both numbers are 0.
+#[derive(Debug, Drop)]
+pub struct Stepped {
+    pub moved: Option<Moved>,
+    pub epoch: u32,
+    pub index: u32,
+    pub out: Out,
+}
+
 /// It sends some messages and tells nothing.
 pub fn sending(alloc: Global, sends: Sends) -> Out
     ensures { (messages : List Msg) → Adds [] sends messages → IsSending messages result }
@@ -62,6 +73,18 @@ pub fn answering(alloc: Global, m: &Msg) -> Result<Out, Memory>
     let mut sends = Sends::new(alloc);
     send(alloc, &mut sends, m)?;
     Ok(sending(alloc, sends))
+}
+
+/// It sends some messages, and releases some items.
+pub fn releasing(sends: Sends, released: Items) -> Out
+    ensures { result ≡ record { sends = sends; opened = None; denied = None; released = released } }
+{
+    Out {
+        sends,
+        opened: None,
+        denied: None,
+        released,
+    }
 }
 
 /// It refuses a message.

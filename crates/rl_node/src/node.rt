@@ -7,6 +7,7 @@ ghost use Rattle.rl_nodes.specs.Elections.{crashed, returned, lost};
 ghost use Rattle.rl_nodes.specs.Events as events;
 ghost use Rattle.rl_nodes.specs.Nodes.{new_node};
 ghost use Rattle.rl_nodes.specs.Setups.{SetupFits};
+ghost use Rattle.rl_value.specs.Fits.{RowsFit};
 ghost use Rattle.std.specs.Result.{result_err};
 ghost use Rattle.rl_node.specs.Inner.{failed_in, repeated, with_failed, noted};
 ghost use Rattle.rl_node.specs.SetupOf.{setup_of};
@@ -76,10 +77,11 @@ impl Node {
         matches!(self.phase, Phase::Lost)
     }
 
-    /// The rows of its replica.
+    /// The rows of its replica, which fit the tables.
     pub fn map(&self) -> &Map
         requires { is_running self.now ≡ true }
-        ensures { ForStanding self.now (λ setup a x. result.now ≡ x.node.replica.rows) }
+        ensures rows { ForStanding self.now (λ setup a x. result.now ≡ x.node.replica.rows) }
+        ensures fit { ForStanding self.now (λ setup a x. SetupFits setup → RowsFit setup.program.tables result.now) }
     {
         let Phase::Up(running) = &self.phase else {
             unreachable!()

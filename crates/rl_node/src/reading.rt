@@ -1,10 +1,11 @@
 //! Batches of a log of bytes.
 
-ghost use Rattle.std.specs.Prelude.{◌≡◌, ℕ, ◌-◌, ◌≤◌, ◌<◌, ◌++◌, ◌∷◌, [], true, length, take, is_some, slice_set, Some, None, IfOk, OnOk};
+ghost use Rattle.std.specs.Prelude.{◌≡◌, ℕ, ◌-◌, ◌≤◌, ◌<◌, ◌++◌, ◌∷◌, [], true, length, take, is_some, slice_set, Some, None, IfOk, OnOk, OnErr, MatchResult};
 ghost use Rattle.rl_cut.specs.Refusals.{extend_refusal};
 ghost use Rattle.rl_families.specs.Logs.{IsRising, stamps_in_batch, stamps_along};
 ghost use Rattle.rl_families.specs.Streams.{log_at};
 ghost use Rattle.rl_nodes.specs.Batches.{batch_of, batches_of, are_batches};
+ghost use Rattle.rl_node.specs.Knowing.{HasFront};
 
 use rl_base::list::{Bytes, Log};
 use rl_base::memory::Memory;
@@ -32,7 +33,8 @@ fn append(family: &mut Family, stream: u32, batch: Batch) -> Result<(), Memory>
     requires last { stream ≤ length family.old }
     requires rising { IsRising (stamps_in_batch batch) }
     requires free { extend_refusal family.old stream batch ≡ None }
-    ensures { OnOk result (family.new ≡ slice_set family.old (stream - 1) (log_at family.old stream ++ batch ∷ [])) }
+    ensures ok { OnOk result (family.new ≡ slice_set family.old (stream - 1) (log_at family.old stream ++ batch ∷ [])) }
+    ensures err { OnErr result (family.new ≡ family.old) }
 {
     match family.extend(stream, batch) {
         Ok(()) => Ok(()),
@@ -41,7 +43,8 @@ fn append(family: &mut Family, stream: u32, batch: Batch) -> Result<(), Memory>
     }
 }
 
-/// Appends the batches of a log in some of its slots to that of a stream, which ends before them.
+/// Appends the batches of a log in some of its slots to that of a stream, which ends before them. After `Memory` it has
+/// the first of them.
 pub fn append_slots(
     alloc: Global,
     family: &mut Family,
@@ -57,7 +60,9 @@ pub fn append_slots(
     requires batches { are_batches log.now ≡ true }
     requires rising { IsRising (stamps_along (batches_of log.now)) }
     requires begins { log_at family.old stream ≡ batches_of (take from log.now) }
-    ensures { OnOk result (family.new ≡ slice_set family.old (stream - 1) (batches_of (take to log.now))) }
+    ensures { MatchResult result
+        (λ _. family.new ≡ slice_set family.old (stream - 1) (batches_of (take to log.now)))
+        (λ _. HasFront family.old family.new stream log.now from to) }
 {
     for slot in from..to {
         let batch = read(alloc, log.get(slot as usize))?;

@@ -10,6 +10,7 @@ use Rattle.rl_base.specs.declared.refusal.Refusal.{Refusal}
 use Rattle.rl_base.specs.declared.refusal.Refusal.TheVariants.{Locked, Changed}
 use Rattle.rl_base.specs.declared.stamp.Stamp.{Stamp}
 use Rattle.rl_value.specs.Tables.{Table}
+use Rattle.rl_txn.specs.Fits.{AnswerFits}
 use Rattle.rl_txn.specs.declared.op.Op.{Op}
 use Rattle.rl_txn.specs.declared.write.Reply.{Reply}
 use Rattle.rl_txn.specs.declared.write.Write as txn
@@ -76,6 +77,7 @@ module _ (a : AttemptOf) (locks : List Lock) (words : List Seen) (reply : Reply)
     is_committed d stamp replied written bounds above left end = record {
       inside = seen.below;
       run = λ rows r. (λ i. (replied i, written i)) ∙ run.run rows r;
+      fits = subst (λ (p : Reply × List txn.Write). AnswerFits a.tables a.txn p.0 p.1) (λ i. (sym replied i, sym written i)) run.fits;
       epoch = ap (λ (s : Stamp). s.epoch) stamp;
       seq = subst (λ (s : Stamp). (2 ≤ s.seq) × (s.seq + 2 ≤ 2 ^ 40)) (sym stamp) bounds;
       above = subst (λ (s : Stamp). IsAbove a.view (packed s)) (sym stamp) above;

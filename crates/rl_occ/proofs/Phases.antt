@@ -30,7 +30,7 @@ module _ (tables : List Table) (txn : List Op) (v w : View) (words : List Seen) 
   still_seen h = subst (λ u. HasSeen tables u words) (sym is) record { seen = h.seen; once = h.once; below = h.below }
 
   pub still_run : HasRun tables txn v reply writes → HasRun tables txn w reply writes
-  still_run h = subst (λ u. HasRun tables txn u reply writes) (sym is) record { run = h.run; writes_fit = h.writes_fit; few = h.few }
+  still_run h = subst (λ u. HasRun tables txn u reply writes) (sym is) record { run = h.run; writes_fit = h.writes_fit; fits = h.fits }
 
 pub all_recs : (tables : List Table) (writes : List Write) (locks : List Lock) → map lock_rec locks ≡ map (rec_of tables) (take (length locks) writes) → length locks ≡ length writes → map lock_rec locks ≡ map (rec_of tables) writes
 all_recs tables writes locks e n = e ∙ ap (map (rec_of tables)) (take_all (length locks) writes (let z = n in omega arith))

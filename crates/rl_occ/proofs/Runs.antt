@@ -15,7 +15,7 @@ use Rattle.rl_tables.specs.Laws.{RecordsHaveTheirPlaces}
 use Rattle.rl_tables.specs.Numbers.{sizes_of, place_of}
 use Rattle.rl_tables.proofs.Sizes.{size_at}
 use Rattle.rl_txn.specs.Eval.{HasRows, rows_given, rows_of}
-use Rattle.rl_txn.specs.Fits.{TxnFits, WriteFits, IsPlaceBelow}
+use Rattle.rl_txn.specs.Fits.{AnswerFits, TxnFits, WriteFits, IsPlaceBelow}
 use Rattle.rl_txn.specs.Laws.{AnswersFit}
 use Rattle.rl_txn.specs.Run.{Overlay, run}
 use Rattle.rl_txn.specs.declared.eval.Eval.{Eval}
@@ -60,8 +60,8 @@ none_read tables v m rest e = record {
     none : (x : Read) → In x v.attempt.reads → ⊥
     none x i = some-ne-none x (sym (subst (λ l. get_elem? l i.0 ≡ some x) (ap (λ a. a.reads) rest) i.1))
 
--- by the laws of transactions and of record numbers
-module _ (tables : List Table) (answers : AnswersFit) (places : RecordsHaveTheirPlaces) where
+-- by the law of record numbers
+module _ (tables : List Table) (places : RecordsHaveTheirPlaces) where
   placed : (w : Write) → WriteFits tables w → place_of (sizes_of tables) (rec_of tables w) ≡ (w.table, w.key)
   placed w f = places (sizes_of tables) w.table w.key (subst (λ n. w.table < n) (sym (length-map tables (λ (t : Table). t.size))) f.0) (subst (λ n. w.key < n) (sym (size_at tables w.table)) f.1)
 
@@ -89,11 +89,13 @@ module _ (tables : List Table) (answers : AnswersFit) (places : RecordsHaveTheir
       ]
     ]
 
+  pub are_writes : (ws : List Write) → All (WriteFits tables) ws → AllPairs IsPlaceBelow ws → AreWrites tables ws
+  are_writes ws fit rising = record { fit = fit_at ws fit rising; apart = apart_at ws fit rising }
+
+-- by the law of transactions
+module _ (tables : List Table) (answers : AnswersFit) (places : RecordsHaveTheirPlaces) where
   pub run_writes : (txn : List Op) (rows : Rows) → TxnFits tables txn → AreWrites tables (run tables txn rows).1
-  run_writes txn rows fits = let a = answers tables txn rows fits in record {
-    fit = fit_at (run tables txn rows).1 a.fit a.rising;
-    apart = apart_at (run tables txn rows).1 a.fit a.rising;
-  }
+  run_writes txn rows fits = let a = answers tables txn rows fits in are_writes tables places (run tables txn rows).1 a.fit a.rising
 
   pub has_run : (txn : List Op) (e : Eval) (v : View) (words : List Seen) (reply : Reply) (writes : List Write) → TxnFits tables txn → HasRead tables v (rows_given e) words
       → ((rows : Rows) → HasRows (rows_given e) rows → (reply, writes) ≡ run tables txn rows) → HasRun tables txn v reply writes
@@ -101,5 +103,5 @@ module _ (tables : List Table) (answers : AnswersFit) (places : RecordsHaveTheir
       let own : writes ≡ (run tables txn (rows_of (rows_given e))).1 = ap (λ p. p.1) (ran (rows_of (rows_given e)) (has_rows_of (rows_given e))) in record {
         run = λ rows has_. ran rows (has_known tables v (rows_given e) words read rows has_);
         writes_fit = subst (AreWrites tables) (sym own) (run_writes txn (rows_of (rows_given e)) fits);
-        few = subst (λ (ws : List Write). length ws ≤ length txn) (sym own) (answers tables txn (rows_of (rows_given e)) fits).few;
+        fits = subst (λ (p : Reply × List Write). AnswerFits tables txn p.0 p.1) (sym (ran (rows_of (rows_given e)) (has_rows_of (rows_given e)))) (answers tables txn (rows_of (rows_given e)) fits);
       }

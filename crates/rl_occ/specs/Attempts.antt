@@ -6,6 +6,7 @@ use Rattle.rl_base.specs.declared.refusal.Refusal.TheVariants.{Locked, Changed}
 use Rattle.rl_value.specs.Rows.{Rows}
 use Rattle.rl_value.specs.Tables.{Table}
 use Rattle.rl_tables.specs.Numbers.{sizes_of}
+use Rattle.rl_txn.specs.Fits.{AnswerFits}
 use Rattle.rl_txn.specs.Run.{run}
 use Rattle.rl_txn.specs.declared.op.Op.{Op}
 use Rattle.rl_txn.specs.declared.write.Write as txn
@@ -58,10 +59,11 @@ abbrev pub with_loss : (v : View) (why : Refused) → View
 with_loss v why = record v { tries = v.tries - 1; draws = v.draws + 1; refusals = v.refusals + 1; last = Some why; attempt = blank }
 
 -- what was decided: what was read are records of the tables, the reply and the writes are those of the run on any rows
--- that have it, and the item has its stamp, reads and writes
+-- that have it and fit the transaction, and the item has its stamp, reads and writes
 pub record IsCommitted (a : AttemptOf) (v : View) (d : Decided) : Type 0 where
   pub inside : (x : Read) → In x a.view.attempt.reads → x.rec < sum (sizes_of a.tables)
   pub run : (rows : Rows) → HasRowsRead a.tables a.view.attempt.reads rows → (d.reply, d.writes) ≡ run a.tables a.txn rows
+  pub fits : AnswerFits a.tables a.txn d.reply d.writes
   pub epoch : d.stamp.epoch ≡ a.store.made.epoch
   pub seq : (2 ≤ d.stamp.seq) × (d.stamp.seq + 2 ≤ 2 ^ 40)
   pub above : IsAbove a.view (packed d.stamp)

@@ -5,7 +5,7 @@ use Rattle.rl_value.specs.Rows.{Rows}
 use Rattle.rl_value.specs.Tables.{Table}
 use Rattle.rl_tables.specs.Numbers.{sizes_of}
 use Rattle.rl_txn.specs.Eval.{IsEval, rows_given, reads_room}
-use Rattle.rl_txn.specs.Fits.{TxnFits}
+use Rattle.rl_txn.specs.Fits.{AnswerFits, TxnFits}
 use Rattle.rl_txn.specs.Run.{run}
 use Rattle.rl_txn.specs.declared.op.Op.{Op}
 use Rattle.rl_txn.specs.declared.write.Reply.{Reply}
@@ -44,7 +44,7 @@ pub record HasSeen (tables : List Table) (v : View) (words : List Seen) : Type 0
 pub record HasRun (tables : List Table) (txn : List Op) (v : View) (reply : Reply) (writes : List Write) : Type 0 where
   pub run : (rows : Rows) → HasRowsRead tables v.attempt.reads rows → (reply, writes) ≡ run tables txn rows
   pub writes_fit : AreWrites tables writes
-  pub few : length writes ≤ length txn
+  pub fits : AnswerFits tables txn reply writes
 
 -- the attempt has read, and holds these locks, and has done nothing else
 abbrev pub HasLocked : (v : View) (locks : List Lock) → Type 0

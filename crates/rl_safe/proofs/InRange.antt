@@ -50,11 +50,11 @@ some_of f (suc n) h = elim (cases_Bool (f (suc n))) [
 
 -- ---- Acks between streams ----
 
-abbrev EnvelopeFair : StreamWorld → world.Message → Type 0
+abbrev pub EnvelopeFair : StreamWorld → world.Message → Type 0
 EnvelopeFair v (world.Ack e s len) = (t : Term) × (v.terms e ≡ Some t) × (len ≤ length (stream_of t s).log)
 EnvelopeFair v other = Unit {0}
 
-envelopes_fair : (v : StreamWorld) (ms : List Msg) → ((m : Msg) → In m ms → AckFair v m) → (n : Envelope) → In n (envelopes_of ms) → EnvelopeFair v n.message
+pub envelopes_fair : (v : StreamWorld) (ms : List Msg) → ((m : Msg) → In m ms → AckFair v m) → (n : Envelope) → In n (envelopes_of ms) → EnvelopeFair v n.message
 envelopes_fair v [] h n i = absurd i
 envelopes_fair v (msg.Prepare from to e ∷ ms) h n i =
     elim i [ inl same ↦ subst (λ (z : Envelope). EnvelopeFair v z.message) (sym same) tt | inr j ↦ envelopes_fair v ms (λ m k. h m (inr k)) n j ]

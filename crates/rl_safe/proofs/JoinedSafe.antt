@@ -136,7 +136,7 @@ module _ (setup : Setup) (sized : SetupFits setup) (w : World) (led : IsLed setu
 
   -- ---- the history ----
 
-  abbrev whole : List Item
+  abbrev pub whole : List Item
   whole = history_of setup chosen
 
   serial : IsSerialHistory setup.program.tables setup.program.lists setup.program.rows whole
@@ -145,7 +145,7 @@ module _ (setup : Setup) (sized : SetupFits setup) (w : World) (led : IsLed setu
       (histories_are_serial setup.program.tables setup.program.lists setup.program.rows led.leaders setup.workers led.are_leaders
       (λ s. batches_of (chosen s)) (are_prefixes chosen chosen_parts) led.serial)
 
-  rising : IsRising (map (λ x. x.stamp) whole)
+  pub rising : IsRising (map (λ x. x.stamp) whole)
   rising = subst (λ family. IsRising (map (λ x. x.stamp) (history family))) (same_family chosen) (logs_rise chosen chosen_parts).rising
 
   pub given_in : (given : Given) → IsGiven setup v given → IsPrefix given.history whole

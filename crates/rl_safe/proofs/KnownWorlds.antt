@@ -32,7 +32,7 @@ use Rattle.rl_nodes.proofs.Growing.{messages}
 use Rattle.rl_nodes.proofs.Runs.{new_nodes}
 use Rattle.rl_nodes.proofs.Tied.{TiedRun, between}
 use Rattle.rl_safe.proofs.KnownLists.{by_set, map_places}
-use Rattle.rl_nodes.proofs.Runs.{Step, after_step, kept_in_runs}
+use Rattle.rl_nodes.proofs.Runs.{Step, after_step, IsKept, kept_in_runs}
 use Rattle.rl_safe.proofs.KnownGrowth.{ChosenAt, Later, chosen_stays, later, all_streams, counted, acknowledged}
 use Rattle.rl_safe.proofs.KnownMoves.{Says, SaysOf, Gives, GivesOf, Opens, OpensWith, Tells, tells}
 use Rattle.rl_safe.proofs.KnownNodes.{family_of, TellsChosen, telling_stays, NodeOk, keeps_logs, moves_ok, forgotten_ok, node_stays}
@@ -42,6 +42,13 @@ pub record IsGiven (setup : Setup) (v : StreamWorld) (given : Given) : Type 0 wh
   pub log : ℕ → bytes.Log
   pub each : (s : ℕ) → is_node setup.workers s ≡ true → ChosenAt (cluster_of setup) v given.epoch s (log s)
   pub is : given.history ≡ history (family_of setup log)
+
+-- a history from which a leader releases, and that of an event
+abbrev pub as_given : Release → Given
+as_given release = record { epoch = release.epoch; history = release.history }
+
+abbrev pub given_now : Option Release → List Given
+given_now release = option_to_list (option_map as_given release)
 
 -- all of these histories begin a list
 abbrev pub AllBegin : List Given → List Item → Type 0
@@ -68,7 +75,7 @@ released_begins whole released history rising p q =
 
 -- ---- the first world ----
 
-begins_known : (setup : Setup) → AllKnown setup (new_world setup)
+pub begins_known : (setup : Setup) → AllKnown setup (new_world setup)
 begins_known setup = record {
   nodes =
       λ a. subst (NodeOk setup (stream_world setup (new_world setup))) (sym (new_nodes setup a))
@@ -195,12 +202,6 @@ module _ (setup : Setup) (sized : SetupFits setup) (w : World) (r : TiedRun setu
         (all_streams setup sized x q lead (led lead is)));
   }
 
-  abbrev as_given : Release → Given
-  as_given release = record { epoch = release.epoch; history = release.history }
-
-  abbrev given_now : Option Release → List Given
-  given_now release = option_to_list (option_map as_given release)
-
   abbrev as_opened : Opening → Opened
   as_opened o = record { epoch = o.epoch; node = step.node; items = o.items }
 
@@ -264,10 +265,12 @@ module _ (setup : Setup) (sized : SetupFits setup) (w : World) (r : TiedRun setu
 
 -- ---- every run ----
 
+pub known_kept : (setup : Setup) → SetupFits setup → IsKept setup (AllKnown setup)
+known_kept setup sized =
+    record { marked = marked_known setup; told = told_known setup; does = λ w r k step q. does_known setup sized w r k step q }
+
 pub all_known : (setup : Setup) → SetupFits setup → (events : List Event) → All (EventFits setup.nodes setup.workers) events → (w : World)
     → world_after setup events ≡ Ok w
     → TiedRun setup w × AllKnown setup w
 all_known setup sized events fits w is =
-    kept_in_runs setup (AllKnown setup)
-    (record { marked = marked_known setup; told = told_known setup; does = λ w r k step q. does_known setup sized w r k step q })
-    (begins_known setup) sized events fits w is
+    kept_in_runs setup (AllKnown setup) (known_kept setup sized) (begins_known setup) sized events fits w is

@@ -22,7 +22,9 @@
 --
 -- What else is true of runs. Epochs: what prefixes of leaders' logs have of an epoch. Elections: so it is in runs, and what is settled
 -- stays. Sent: what a node sends is its own or answers what was sent, and no leader's log passes the limit of slots. Fair: so it is
--- with all messages of a run. InRange, Bad: so each is in range, and none is bad. Messages: the laws on them. Happens: a worked run.
+-- with all messages of a run. InRange, Bad: so each is in range, and none is bad. Messages: the laws on them. Gained: an open leader has
+-- released from all that it counts as acknowledged, whatever it does since. Gains: so what its history gains suffices. Seqs: what one event draws.
+-- Happens: a worked run.
 pub mod Accounts
 pub mod Bad
 pub mod Below
@@ -32,6 +34,8 @@ pub mod Encodings
 pub mod Epochs
 pub mod Fair
 pub mod Fits
+pub mod Gained
+pub mod Gains
 pub mod Happens
 pub mod Held
 pub mod InRange
@@ -50,5 +54,6 @@ pub mod Moves
 pub mod Opened
 pub mod Origins
 pub mod Sayings
+pub mod Seqs
 pub mod Sent
 pub mod Told

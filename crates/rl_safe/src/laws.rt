@@ -3,8 +3,8 @@
 ghost use Rattle.rl_nodes.specs.Laws.{EveryRunIsSafe};
 ghost use Rattle.rl_safe.specs.Elections.{LogsHaveWhatIsProposed, LogsHaveAllUpToTheLast, EpochsDecide, EpochsSettle, ReleasedIsNeverCut};
 ghost use Rattle.rl_safe.specs.Elections.{ItemsAreOfOpenedEpochs, OpeningListsStand, LaterLogsBeginOpeningLists};
-ghost use Rattle.rl_safe.specs.Laws.{RunsAreLed, LedRunsAreSafe};
-ghost use Rattle.rl_safe.specs.Messages.{MessagesAreInRange, MessagesReadBack, NoMessageIsBad};
+ghost use Rattle.rl_safe.specs.Laws.{RunsAreLed, LedRunsAreSafe, GainsSuffice, SeqsAreFew};
+ghost use Rattle.rl_safe.specs.Messages.{MessagesAreInRange, MessagesReadBack, MessagesHaveReceivers, NoMessageIsBad};
 ghost use Rattle.rl_safe.specs.Runs.{SomeRunReleases};
 
 use rl_batch::laws as batches;
@@ -79,10 +79,11 @@ pub fn epochs_settle()
     runs_are_led();
 }
 
-/// Each message that was sent in a run is in range of its encoding, so that its bytes read back as it.
+/// Each message that was sent in a run is in range of its encoding, so that its bytes read back as it; and its receiver is there.
 pub fn messages_are_in_range()
     ensures in_range { MessagesAreInRange }
     ensures read_back { MessagesReadBack }
+    ensures receivers { MessagesHaveReceivers }
 {
     streams::leader_logs();
     messages::reads_back();
@@ -95,4 +96,20 @@ pub fn no_message_is_bad()
 {
     streams::leader_logs();
     runs_are_led();
+}
+
+/// Where the receiver of a message releases, the items that its history gained suffice: what is above the last released item in
+/// the whole history, is so among these. So a node need hand out no others.
+pub fn gains_suffice()
+    ensures { GainsSuffice }
+{
+    streams::leader_logs();
+    runs_are_led();
+}
+
+/// The next seq of an open leader is at most 2 more than the events of its run count, so it stays far below the end mark's.
+pub fn seqs_are_few()
+    ensures { SeqsAreFew }
+{
+    workers::one_step();
 }

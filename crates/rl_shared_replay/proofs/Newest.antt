@@ -62,7 +62,7 @@ abbrev writes_there : (q : ℕ × ℕ) (x : Item) → Bool
 writes_there q x = list_any (is_at q) x.writes
 
 -- the newest item that writes at a key leaves its row there
-newest_left : (q : ℕ × ℕ) (o : RowOf) (xs : List Item) → Strict xs → (x : Item) → In x xs → (w : Write) → In w x.writes → is_at q w ≡ true → AllPairs AreApart x.writes
+pub newest_left : (q : ℕ × ℕ) (o : RowOf) (xs : List Item) → Strict xs → (x : Item) → In x xs → (w : Write) → In w x.writes → is_at q w ≡ true → AllPairs AreApart x.writes
     → ((y : Item) → In y xs → writes_there q y ≡ true → Less x y → ⊥) → left_by o q xs ≡ w.row
 newest_left q o [] s x i w j t apart top = absurd i
 newest_left q o (z ∷ zs) s x i w j t apart top = elim i [

@@ -26,7 +26,8 @@ use Rattle.rl_node.specs.declared.node.Node.{Node}
 use Rattle.rl_world.specs.Finishing.{HasFinished, HasNotFinished}
 use Rattle.rl_world.specs.Refusing.{IsByBytes}
 use Rattle.rl_world.specs.Releasing.{GainSuffices}
-use Rattle.rl_world.specs.Standing.{answers, IsNumberOf, StandNodes, IsSafe, StandsRun, HasRun, limit_of, IsDueError, TriesRun}
+use Rattle.rl_world.specs.Standing.{answers, IsNumberOf, StandNodes, IsSafe, StandsRun, HasRun, Tries, TriesRun}
+use Rattle.rl_world.specs.Worlds.{limit_of, IsCause}
 use Rattle.rl_world.specs.Telling.{kept, message_of, HasTaken, StandsTold}
 use Rattle.rl_world.specs.declared.run.Run.{Run}
 use Rattle.rl_world.specs.declared.told.Told.{Told}
@@ -38,7 +39,7 @@ use Rattle.rl_world.proofs.Taking.{net_after, told_after}
 
 -- a run with another node a, and other things told
 abbrev pub with_node : Run → (a : ℕ) → Node → Told → Run
-with_node r a n told = record { setup = r.setup; nodes = with_item r.nodes (a - 1) n; told = told }
+with_node r a n told = record { setup = r.setup; layout = r.layout; nodes = with_item r.nodes (a - 1) n; told = told }
 
 -- a node that is read at its place
 pub node_read : (r : Run) (w : World) (a : ℕ) (n : Node) → IsNumberOf (setup_of r.setup) a → StandsRun r w → n ≡ get_or r.nodes.items (a - 1) n
@@ -54,6 +55,7 @@ pub safe_with : (r : Run) (a : ℕ) (n : Node) (told : Told) → IsSafe r → Is
     → bytes_sent told.net ≤ BYTES → told.sent ≡ length told.net → IsSafe (with_node r a n told)
 safe_with r a n told safe is here few sent = record {
   fits = safe.fits;
+  layout = safe.layout;
   count = length-set r.nodes.items (a - 1) n ∙ safe.count;
   each = still_nodes (setup_of r.setup) r.nodes.items a n safe.count is here safe.each;
   few = few;
@@ -90,7 +92,7 @@ module _ (r : Run) (w : World) (a number : ℕ) (n : Node) (did : Did) (out : Ou
       record { world = after_doing w a number did; is = within (after_doing w a number did) few; stands = after }
 
   -- or passed the limit of bytes
-  pub over : (error : WorldError) → IsByBytes (BYTES < bytes_sent (r.told.net ++ map message_of out.sends)) error → IsDueError (after_answer w a number (Ok did)) error
+  pub over : (error : WorldError) → IsByBytes (BYTES < bytes_sent (r.told.net ++ map message_of out.sends)) error → IsCause (after_answer w a number (Ok did)) error
   over (Limit name limit) why =
       let net = net_after (setup_of r.setup).program.tables w a number did out r.told r.told st.told told_out told_out.in_range no_refusal suffices in
       let many : BYTES < bytes_sent (map kept (after_doing w a number did).sent) = subst (λ (m : _). BYTES < bytes_sent m) net why.2 in
@@ -133,8 +135,7 @@ nothing_done test r a n due w st read fails = record {
 abbrev pub TellsPlainly : World → Answer → Type 0
 TellsPlainly w answer = (did : Did) → answer ≡ Ok did → (did.refusal ≡ None) × GainSuffices w.released did.release
 
-module _ (r : Run) (a number : ℕ) (n : Node) (told : Told) (due : NodeState → Answer) (safe : IsSafe r) (is : IsNumberOf (setup_of r.setup) a)
-    (plain : (w : World) → StandsRun r w → TellsPlainly w (due (node_of (setup_of r.setup) w a))) where
+module _ (r : Run) (a number : ℕ) (n : Node) (told : Told) (due : NodeState → Answer) (safe : IsSafe r) (is : IsNumberOf (setup_of r.setup) a) where
   abbrev Ans : World → Answer
   Ans w = due (node_of (setup_of r.setup) w a)
 
@@ -142,22 +143,22 @@ module _ (r : Run) (a number : ℕ) (n : Node) (told : Told) (due : NodeState �
   Old w = answers (node_of (setup_of r.setup) w a)
 
   -- it did what was due
-  did_it : (w : World) (out : Out) → StandsRun r w → Does (setup_of r.setup) a n (Old w) (Ans w) out → HasTaken r.told told number a out
-      → HasRun (with_node r a n told) (after_answer w a number (Ans w))
-  did_it w out st d taken =
+  did_it : (w : World) (out : Out) → StandsRun r w → TellsPlainly w (Ans w) → Does (setup_of r.setup) a n (Old w) (Ans w) out
+      → HasTaken r.told told number a out → HasRun (with_node r a n told) (after_answer w a number (Ans w))
+  did_it w out st plain d taken =
       let new : d.new ≡ answers d.did.node = λ i. record { node = d.done.node i; failed = d.done.can i } in
       let at : Stands (setup_of r.setup) a n (answers d.did.node) = subst (Stands (setup_of r.setup) a n) new d.stands in
-      let tells = plain w st d.did d.done.due in
+      let tells = plain d.did d.done.due in
       subst (λ answer. HasRun (with_node r a n told) (after_answer w a number answer)) (sym d.done.due)
       (done r w a number n d.did out safe is st at d.hands_out tells.0 tells.1 told taken)
 
-  over_it : (w : World) (out : Out) (error : WorldError) → StandsRun r w → Does (setup_of r.setup) a n (Old w) (Ans w) out
-      → IsByBytes (BYTES < bytes_sent (r.told.net ++ map message_of out.sends)) error → IsDueError (after_answer w a number (Ans w)) error
-  over_it w out error st d why =
+  over_it : (w : World) (out : Out) (error : WorldError) → StandsRun r w → TellsPlainly w (Ans w) → Does (setup_of r.setup) a n (Old w) (Ans w) out
+      → IsByBytes (BYTES < bytes_sent (r.told.net ++ map message_of out.sends)) error → IsCause (after_answer w a number (Ans w)) error
+  over_it w out error st plain d why =
       let new : d.new ≡ answers d.did.node = λ i. record { node = d.done.node i; failed = d.done.can i } in
       let at : Stands (setup_of r.setup) a n (answers d.did.node) = subst (Stands (setup_of r.setup) a n) new d.stands in
-      let tells = plain w st d.did d.done.due in
-      subst (λ answer. IsDueError (after_answer w a number answer) error) (sym d.done.due)
+      let tells = plain d.did d.done.due in
+      subst (λ answer. IsCause (after_answer w a number answer) error) (sym d.done.due)
       (over r w a number n d.did out safe is st at d.hands_out tells.0 tells.1 error why)
 
   -- it was due to do nothing
@@ -172,35 +173,38 @@ module _ (r : Run) (a number : ℕ) (n : Node) (told : Told) (due : NodeState �
     };
   }
 
-  -- what a node answered has become what was due
-  pub answered : (answer : Result Out NodeError) (result : Result (Unit {0}) WorldError)
+  -- what a node of a world answered has become what was due
+  pub answered_at : (w : World) → StandsRun r w → TellsPlainly w (Ans w) → (answer : Result Out NodeError) (result : Result (Unit {0}) WorldError)
+      → IfOk answer (Does (setup_of r.setup) a n (Old w) (Ans w)) → IfErr answer (Refuses (setup_of r.setup) a n (Old w) (Ans w))
+      → OnOk result (HasFinished r.told told number a answer) → IfErr result (HasNotFinished r.told answer)
+      → Tries (with_node r a n told) (after_answer w a number (Ans w)) result
+  answered_at w st plain (Ok out) (Ok u) does refuses ok err = did_it w out st plain does ok
+  answered_at w st plain (Ok out) (Err error) does refuses ok err = over_it w out error st plain does err
+  answered_at w st plain (Err node.BadMessage) (Ok u) does f ok err = kept_run w node.BadMessage st f.refused.0 refl f.new f.stands f.refused.1 ok
+  answered_at w st plain (Err (node.NoEpoch p)) (Ok u) does f ok err = kept_run w (node.NoEpoch p) st f.refused.0 refl f.new f.stands f.refused.1 ok
+  answered_at w st plain (Err (node.StreamFull s)) (Ok u) does f ok err = absurd ok
+  answered_at w st plain (Err node.Memory) (Ok u) does f ok err = absurd ok
+  answered_at w st plain (Err node.BadMessage) (Err error) does f ok err = absurd err
+  answered_at w st plain (Err (node.NoEpoch p)) (Err error) does f ok err = absurd err
+  answered_at w st plain (Err (node.StreamFull s)) (Err error) does f ok err =
+      subst (IsCause (after_answer w a number (Ans w))) (sym err) (ap (after_answer w a number) f.refused.0, refl)
+  answered_at w st plain (Err node.Memory) (Err error) does f ok err = subst (IsCause (after_answer w a number (Ans w))) (sym err) tt
+
+  -- whatever world it was of
+  pub answered : ((w : World) → StandsRun r w → TellsPlainly w (Ans w)) → (answer : Result Out NodeError) (result : Result (Unit {0}) WorldError)
       → ((w : World) → StandsRun r w → IfOk answer (Does (setup_of r.setup) a n (Old w) (Ans w)))
       → ((w : World) → StandsRun r w → IfErr answer (Refuses (setup_of r.setup) a n (Old w) (Ans w)))
       → OnOk result (HasFinished r.told told number a answer) → IfErr result (HasNotFinished r.told answer)
       → TriesRun r (with_node r a n told) (λ w. after_answer w a number (Ans w)) result
-  answered (Ok out) (Ok u) does refuses ok err = λ w st. did_it w out st (does w st) ok
-  answered (Ok out) (Err error) does refuses ok err = λ w st. over_it w out error st (does w st) err
-  answered (Err node.BadMessage) (Ok u) does refuses ok err = λ w st.
-      let f = refuses w st in kept_run w node.BadMessage st f.refused.0 refl f.new f.stands f.refused.1 ok
-  answered (Err (node.NoEpoch p)) (Ok u) does refuses ok err = λ w st.
-      let f = refuses w st in kept_run w (node.NoEpoch p) st f.refused.0 refl f.new f.stands f.refused.1 ok
-  answered (Err (node.StreamFull s)) (Ok u) does refuses ok err = absurd ok
-  answered (Err node.Memory) (Ok u) does refuses ok err = absurd ok
-  answered (Err node.BadMessage) (Err error) does refuses ok err = absurd err
-  answered (Err (node.NoEpoch p)) (Err error) does refuses ok err = absurd err
-  answered (Err (node.StreamFull s)) (Err error) does refuses ok err = λ w st.
-      subst (IsDueError (after_answer w a number (Ans w))) (sym err) (ap (after_answer w a number) (refuses w st).refused.0, refl)
-  answered (Err node.Memory) (Err error) does refuses ok err = λ w st.
-      subst (IsDueError (after_answer w a number (Ans w))) (sym err) tt
+  answered plain answer result does refuses ok err w st = answered_at w st (plain w st) answer result (does w st) (refuses w st) ok err
 
 -- the same where a node is asked because it is up
 pub up_answered : (r : Run) (a : ℕ) (new : Run) (due : NodeState → Answer) (result : Result (Unit {0}) WorldError)
     → ((w : World) → StandsRun r w → is_up (node_of (setup_of r.setup) w a).state ≡ true)
     → TriesRun r new (λ w. after_answer w a 0 (due (node_of (setup_of r.setup) w a))) result → TriesRun r new (does_up (setup_of r.setup) a due) result
-up_answered r a new due (Ok u) up h = λ w st.
-    subst (HasRun new) (sym (ap (λ b. cond b (after_answer w a 0 (due (node_of (setup_of r.setup) w a))) (Ok w)) (up w st))) (h w st)
-up_answered r a new due (Err error) up h = λ w st.
-    subst (λ (ran : Ran). IsDueError ran error) (sym (ap (λ b. cond b (after_answer w a 0 (due (node_of (setup_of r.setup) w a))) (Ok w)) (up w st))) (h w st)
+up_answered r a new due result up h w st =
+    subst (λ (ran : Ran). Tries new ran result)
+    (sym (ap (λ b. cond b (after_answer w a 0 (due (node_of (setup_of r.setup) w a))) (Ok w)) (up w st))) (h w st)
 
 -- an election refuses no attempt, and releases nothing
 pub election_plain : (setup : Setup) (a : ℕ) (x : NodeState) (w : World) → TellsPlainly w (elects setup a x)

@@ -11,6 +11,7 @@ use Rattle.rl_nodes.specs.Calls.{Standing}
 use Rattle.rl_nodes.specs.Nodes.{new_node}
 use Rattle.rl_nodes.specs.Setups.{Setup, SetupFits}
 use Rattle.rl_nodes.specs.World.{Sent, new_world, node_of}
+use Rattle.rl_tables.specs.Numbers.{sizes_of}
 use Rattle.rl_node.specs.SetupOf.{setup_of}
 use Rattle.rl_node.specs.Standing.{Stands}
 use Rattle.rl_node.specs.declared.node.Node.{Node}
@@ -36,7 +37,7 @@ one_more setup x nodes n k count each last i d below =
 
 module _ (r : Run) (fits : SetupFits (setup_of r.setup)) (count : length r.nodes.items ≡ (setup_of r.setup).nodes)
     (each : (i : ℕ) (d : Node) → i < (setup_of r.setup).nodes → Stands (setup_of r.setup) (i + 1) (get_or r.nodes.items i d) (answers (new_node (setup_of r.setup))))
-    (told : r.told ≡ record { net = []; sent = 0; released = []; lines = [] }) where
+    (told : r.told ≡ record { net = []; sent = 0; released = []; lines = [] }) (numbers : r.layout ≡ sizes_of (setup_of r.setup).program.tables) where
   at : (a : ℕ) (d : Node) → IsNumberOf (setup_of r.setup) a → Stands (setup_of r.setup) a (get_or r.nodes.items (a - 1) d) (answers (new_node (setup_of r.setup)))
   at a d is =
       let p = is.first in
@@ -52,6 +53,7 @@ module _ (r : Run) (fits : SetupFits (setup_of r.setup)) (count : length r.nodes
   pub new_safe : IsSafe r
   new_safe = record {
     fits = fits;
+    layout = numbers;
     count = count;
     each = λ a d is. (a, answers (new_node (setup_of r.setup)), at a d is);
     few = no_bytes;

@@ -20,13 +20,14 @@ use Rattle.rl_world.proofs.Marking.{sent_read, same_bytes, same_count, changed_k
 
 -- a run that tells other things
 abbrev pub with_told : Run → Told → Run
-with_told r told = record { setup = r.setup; nodes = r.nodes; told = told }
+with_told r told = record { setup = r.setup; layout = r.layout; nodes = r.nodes; told = told }
 
 -- and is safe still
 pub safe_told : (r : Run) (told : Told) → IsSafe r → net.bytes_sent told.net ≡ net.bytes_sent r.told.net → length told.net ≡ length r.told.net → told.sent ≡ r.told.sent
     → IsSafe (with_told r told)
 safe_told r told safe bytes count sent = record {
   fits = safe.fits;
+  layout = safe.layout;
   count = safe.count;
   each = safe.each;
   few = subst (λ n. n ≤ BYTES) (sym bytes) safe.few;

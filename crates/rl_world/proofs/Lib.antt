@@ -2,20 +2,28 @@
 -- Beginning its first. Setups: a script makes a setup in range, so that the nodes fit it.
 --     What a node did is told as the world has it (Taking, Answering): its messages are sent one after another
 -- (Sending), and lines, refusals and released items join those told before (LastReleased).
---     Messages: Marking, Dropping and Delivering have one that is delivered or dropped, Pending those that are left.
---     Reports: Names, Rows and Streams have the parts that are printed.
+--     Moments, Amid, Repeating: how the worlds of a run follow on each other, also within one event.
+--     Messages: Marking, Dropping, Delivering and Reaching have one that is delivered or dropped, Pending those that are
+-- left. Working has the steps of a worker.
+--     Reports: Names, Rows, Streams and Shown have the parts that are printed.
+pub mod Amid
 pub mod Answering
 pub mod Beginning
 pub mod Delivering
 pub mod Dropping
 pub mod LastReleased
 pub mod Marking
+pub mod Moments
 pub mod Names
 pub mod Pending
+pub mod Reaching
+pub mod Repeating
 pub mod Results
 pub mod Rows
 pub mod Sending
 pub mod Setups
+pub mod Shown
 pub mod Standing
 pub mod Streams
 pub mod Taking
+pub mod Working

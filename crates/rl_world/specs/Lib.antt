@@ -1,9 +1,14 @@
+pub mod Amid
 pub mod Finishing
 pub mod Laws
+pub mod Moments
 pub mod Pending
 pub mod Refusing
 pub mod Releasing
+pub mod Repeating
 pub mod Reported
 pub mod Scripts
 pub mod Standing
+pub mod Stepping
 pub mod Telling
+pub mod Worlds

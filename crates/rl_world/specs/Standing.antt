@@ -1,20 +1,19 @@
 -- What the fields of a run stand for. No public contract cites it.
 use Rattle.std.specs.Prelude.{◌≡◌, ℕ, ◌-◌, ◌≤◌, List, length, slice_index_or, None, Ok, Err, Result}
-use Rattle.rl_base.specs.declared.limit.LimitName.{LimitName}
-use Rattle.rl_base.specs.declared.limit.LimitName.TheVariants.{Slots}
-use Rattle.rl_base.specs.declared.limit.TheConstants.{SLOTS, BYTES}
+use Rattle.rl_base.specs.declared.limit.TheConstants.{BYTES}
 use Rattle.rl_net.specs.Messages.{bytes_sent}
 use Rattle.rl_nodes.specs.Calls.{Standing}
 use Rattle.rl_nodes.specs.Nodes.{NodeState}
 use Rattle.rl_nodes.specs.Setups.{Setup, SetupFits}
 use Rattle.rl_nodes.specs.World.{World, Ran, node_of}
+use Rattle.rl_tables.specs.Numbers.{sizes_of}
 use Rattle.rl_node.specs.SetupOf.{setup_of}
 use Rattle.rl_node.specs.Standing.{Stands, IsNode}
 use Rattle.rl_node.specs.declared.node.Node.{Node}
 use Rattle.rl_world.specs.Telling.{StandsTold}
 use Rattle.rl_world.specs.declared.run.Run.{Run}
 use Rattle.rl_world.specs.declared.world_error.WorldError.{WorldError}
-use Rattle.rl_world.specs.declared.world_error.WorldError.TheVariants.{Limit, Memory}
+use Rattle.rl_world.specs.Worlds.{IsCause}
 
 -- ---- nodes ----
 
@@ -34,9 +33,10 @@ pub record StandNodes (setup : Setup) (nodes : List Node) (w : World) : Type 0 w
 
 -- ---- a run ----
 
--- the setup and the nodes of a run, and how much was sent, also after a refusal
+-- the setup and the nodes of a run, the numbers of its records, and how much was sent, also after a refusal
 pub record IsSafe (r : Run) : Type 0 where
   pub fits : SetupFits (setup_of r.setup)
+  pub layout : r.layout ≡ sizes_of (setup_of r.setup).program.tables
   pub count : length r.nodes.items ≡ (setup_of r.setup).nodes
   pub each : (a : ℕ) (d : Node) → IsNumberOf (setup_of r.setup) a → IsNode (setup_of r.setup) (slice_index_or r.nodes.items (a - 1) d)
   pub few : bytes_sent r.told.net ≤ BYTES
@@ -59,17 +59,11 @@ pub record HasRun (new : Run) (due : Ran) : Type 0 where
 abbrev pub Runs : (old new : Run) → (due : World → Ran) → Type 0
 Runs old new due = (w : World) → StandsRun old w → HasRun new (due w)
 
--- how much there may be of what passes a limit in a run
-abbrev pub limit_of : LimitName → ℕ
-limit_of Slots = SLOTS
-limit_of other = BYTES
-
--- a refusal that is due: by a limit where that is passed, or because memory ran out
-abbrev pub IsDueError : (due : Ran) → WorldError → Type 0
-IsDueError due (Limit name limit) = (due ≡ Err name) × (limit ≡ limit_of name)
-IsDueError due Memory = Unit {0}
-
 -- it stands for what was due, or refuses as was due
+abbrev pub Tries : (new : Run) → (due : Ran) → Result (Unit {0}) WorldError → Type 0
+Tries new due (Ok done) = HasRun new due
+Tries new due (Err error) = IsCause due error
+
+-- so it does whatever world it stood for
 abbrev pub TriesRun : (old new : Run) → (due : World → Ran) → Result (Unit {0}) WorldError → Type 0
-TriesRun old new due (Ok done) = Runs old new due
-TriesRun old new due (Err error) = (w : World) → StandsRun old w → IsDueError (due w) error
+TriesRun old new due result = (w : World) → StandsRun old w → Tries new (due w) result

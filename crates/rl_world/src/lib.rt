@@ -2,6 +2,7 @@
 #![tactic(auto)]
 
 mod blocks;
+mod copies;
 pub mod laws;
 mod lines;
 mod releases;

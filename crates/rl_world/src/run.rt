@@ -2,8 +2,8 @@
 
 ghost use Rattle.std.specs.Prelude.{◌≡◌, not, Ok, IfOk};
 ghost use Rattle.rl_nodes.specs.Answers.{quiet};
-ghost use Rattle.rl_nodes.specs.Elections.{elects, ticks, crashed, lost};
-ghost use Rattle.rl_nodes.specs.Events.{is_lost, does_where, does_up, changes_up, drops};
+ghost use Rattle.rl_nodes.specs.Elections.{elects, ticks, crashed, returned, lost};
+ghost use Rattle.rl_nodes.specs.Events.{is_down, is_lost, does_where, does_up, changes_up, drops};
 ghost use Rattle.rl_nodes.specs.Setups.{SetupFits};
 ghost use Rattle.rl_nodes.specs.World.{new_world};
 ghost use Rattle.rl_node.specs.SetupOf.{setup_of};
@@ -14,12 +14,14 @@ use crate::world_error::WorldError;
 use rl_base::memory::Memory;
 use rl_node::node::Node;
 use rl_node::setup::Setup;
+use rl_tables::layout::Layout;
 use std::alloc::Global;
 
-/// What stays the same in a run, its nodes, and what was sent, released and told.
+/// What stays the same in a run, with the numbers of its records, its nodes, and what was sent, released and told.
 #[derive(Drop)]
 pub struct Run {
     pub setup: Setup,
+    pub layout: Layout,
     pub nodes: Vec<Node>,
     pub told: Told,
 }
@@ -37,8 +39,10 @@ impl Run {
         for before in 0..nodes {
             list.push(Node::new(alloc, before + 1, &setup)?)?;
         }
+        let layout = Layout::new(alloc, setup.schema())?;
         Ok(Run {
             setup,
+            layout,
             nodes: list,
             told: Told::new(alloc),
         })
@@ -56,6 +60,22 @@ impl Run {
         if node.is_up() {
             node.crash();
         }
+    }
+
+    /// A node that is down is up again.
+    pub fn back(&mut self, alloc: Global, a: u32) -> Result<(), WorldError>
+        requires safe { IsSafe self.old }
+        requires node { IsNumberOf (setup_of self.old.setup) a }
+        ensures runs { let setup = setup_of self.old.setup in TriesRun self.old self.new
+            (does_where is_down setup a (λ x. Ok (quiet (returned x)))) result }
+        ensures safe { IsSafe self.new }
+        ensures setup { self.new.setup ≡ self.old.setup }
+    {
+        let node = &mut self.nodes[a as usize - 1];
+        if node.is_down() {
+            node.back(alloc, &self.setup)?;
+        }
+        Ok(())
     }
 
     /// A node is lost for good where it is not lost yet.

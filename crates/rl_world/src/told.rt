@@ -7,6 +7,7 @@ ghost use Rattle.rl_net.specs.Messages.{bytes_sent, message_at, dropped_at};
 ghost use Rattle.rl_world.specs.Finishing.{HasFinished, HasNotFinished};
 ghost use Rattle.rl_world.specs.Refusing.{IsByBytes};
 ghost use Rattle.rl_world.specs.Reported.{denied_lines};
+ghost use Rattle.rl_world.specs.Stepping.{HasTakenStep};
 ghost use Rattle.rl_world.specs.Telling.{message_of, opened_middle, HasTaken};
 
 use crate::lines::push_denied;
@@ -104,6 +105,30 @@ impl Told {
         self.send(sends)?;
         release(&mut self.released, released)?;
         self.tell(number, node, denied, opened)?;
+        Ok(())
+    }
+
+    /// Takes what a node hands out at a step of a worker, and the line of an attempt that was refused.
+    ///
+    /// `Limit` exactly where the bytes of all messages would be more than their limit; `Memory`.
+    pub fn take_step(
+        &mut self,
+        node: u32,
+        out: Out,
+        refused: Option<Middle>,
+    ) -> Result<(), WorldError>
+        requires few { bytes_sent self.old.net ≤ BYTES }
+        requires count { self.old.sent ≡ length self.old.net }
+        ensures taken { OnOk result (HasTakenStep self.old self.new node out refused) }
+        ensures refused { IfErr result
+            (IsByBytes (BYTES < bytes_sent (self.old.net ++ map message_of out.sends))) }
+        ensures few { bytes_sent self.new.net ≤ BYTES }
+        ensures count { self.new.sent ≡ length self.new.net }
+    {
+        self.take(0, node, out)?;
+        if let Some(line) = refused {
+            self.lines.push(line)?;
+        }
         Ok(())
     }
 

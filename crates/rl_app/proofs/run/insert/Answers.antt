@@ -1,4 +1,4 @@
-use Rattle.std.proofs.Common.{◌≡◌, List, subst, sym, ap, ◌∙◌}
+use Rattle.std.proofs.Common.{List, subst, sym, ap, ◌∙◌}
 use Rattle.std.specs.List.{insert}
 use Rattle.rl_txn.specs.declared.item.Item.{Item}
 use Rattle.rl_worker.specs.Opening.{item_seen, items_seen}

@@ -1,4 +1,4 @@
-use Rattle.std.proofs.Common.{◌≡◌, ◌<◌, ◌-◌, [], subst, sym, ap, ◌∙◌, IfSome, length, map, ◌++◌, arith, refl}
+use Rattle.std.proofs.Common.{◌≡◌, ◌<◌, ◌-◌, [], subst, sym, ap, ◌∙◌, length, ◌++◌, arith, refl}
 use Rattle.std.specs.Option.{option_copied, option_map}
 use Rattle.std.specs.Option.{option_map_or}
 use Rattle.std.specs.String.{string_bytes}

@@ -15,8 +15,8 @@ step-requires-clause-fits c =
     slice_get_read works.workers.items (length works.workers.items) (c.args.worker - 1) c.index_mut.result.now refl inside c.index_mut.ensures.value in
     (a.each c.args.worker c.index_mut.result.now is.0 at).fits
 
-pub returns : goal.returns
-returns c = λ l core a.
+pub returns-clause-step : goal.returns-clause-step
+returns-clause-step c = λ l core a.
     let works = c.args.self.now in
     let is = c.requires.worker in
     let inside : c.args.worker - 1 < length works.workers.items = (let count = a.count in omega (arith, is.0, is.1, count)) in

@@ -1,6 +1,7 @@
 use Rattle.std.proofs.Common.{◌≡◌, ◌+◌, ◌<◌, List, [], ◌∷◌, length, get_or, length-append, sym, ap, subst, ◌∙◌, arith}
 use Rattle.rl_nodes.specs.Calls.{Standing}
 use Rattle.rl_nodes.specs.Nodes.{new_node}
+use Rattle.rl_tables.specs.Numbers.{sizes_of}
 use Rattle.rl_node.specs.SetupOf.{setup_of}
 use Rattle.rl_node.specs.Standing.{Stands}
 use Rattle.rl_node.specs.declared.node.Node.{Node}
@@ -28,13 +29,13 @@ loop-before-preserved c =
 pub returns-clause-safe : goal.returns-clause-safe
 returns-clause-safe c =
     let i = c.loop-before.invariant in
-    let r : Run = record { setup = c.args.setup; nodes = c.loop-before.list; told = c.new-2.result } in
+    let r : Run = record { setup = c.args.setup; layout = c.in_ok-layout.layout; nodes = c.loop-before.list; told = c.new-3.result } in
     let all : c.loop-before.before ≡ (setup_of c.args.setup).nodes = omega (arith, c.loop-before-test.false, c.loop-before.auto.before-end, c.requires.nodes) in
-    new_safe r c.requires.fits (i.count ∙ all) (λ k d below. i.each k d (subst (λ m. k < m) (sym all) below)) c.new-2.ensures
+    new_safe r c.requires.fits (i.count ∙ all) (λ k d below. i.each k d (subst (λ m. k < m) (sym all) below)) c.new-3.ensures (c.in_ok-layout.ensures ∙ ap sizes_of c.schema.ensures)
 
 pub returns-clause-stands : goal.returns-clause-stands
 returns-clause-stands c =
     let i = c.loop-before.invariant in
-    let r : Run = record { setup = c.args.setup; nodes = c.loop-before.list; told = c.new-2.result } in
+    let r : Run = record { setup = c.args.setup; layout = c.in_ok-layout.layout; nodes = c.loop-before.list; told = c.new-3.result } in
     let all : c.loop-before.before ≡ (setup_of c.args.setup).nodes = omega (arith, c.loop-before-test.false, c.loop-before.auto.before-end, c.requires.nodes) in
-    new_stands r c.requires.fits (i.count ∙ all) (λ k d below. i.each k d (subst (λ m. k < m) (sym all) below)) c.new-2.ensures
+    new_stands r c.requires.fits (i.count ∙ all) (λ k d below. i.each k d (subst (λ m. k < m) (sym all) below)) c.new-3.ensures (c.in_ok-layout.ensures ∙ ap sizes_of c.schema.ensures)

@@ -1,0 +1,135 @@
+//! The command `gen`: a generated script.
+
+ghost use Rattle.std.specs.Prelude.{◌≡◌, ◌≤◌, ◌-◌, ◌^◌, IfOk, IfSome, MatchOption, codes, min};
+ghost use Rattle.rl_script.specs.Fits.{ScriptFits};
+ghost use Rattle.rl_script.specs.Printed.{printed};
+ghost use Rattle.rl_app.specs.Command.{usage_line};
+ghost use Rattle.rl_app.specs.Gen.{GivesScript, SomeEach, gen_sizes, number_from, sizes_of};
+ghost use Rattle.rl_app.specs.Serve.{Delivers, Writes, side};
+
+use crate::answer::{Answer, Status, deliver, passed_answer, write_answer};
+use crate::command::USAGE;
+use rl_base::memory::Memory;
+use rl_gen::generate::{GenError, generate};
+use rl_io::sink::Sink;
+use rl_script::printed::print;
+use rl_script::script::Script;
+use rl_text::number::number_of;
+use std::alloc::Global;
+
+/// The seed of a generated script, and how many nodes, workers and requests it has.
+#[derive(Clone, Copy, Debug, PartialEq, Eq)]
+pub struct Sizes {
+    pub seed: u32,
+    pub nodes: u64,
+    pub workers: u64,
+    pub requests: u64,
+}
+
+/// Writes the printed form of a generated script: the words are `gen script SEED NODES WORKERS REQUESTS`.
+///
+/// Status 0 with the script; 2 where the words are others, or a number is out of its range: a seed
+/// above 4294967295, or a 0 behind it; 4 for more than 7 nodes, 16 workers or 2,000 requests; 6 where
+/// a write failed, with a prefix of the text written; 7 where there was no memory. At 2, 4 and 7 the
+/// one line of the status is written.
+pub fn gen_command<K: Sink>(alloc: Global, words: &[String], sink: &mut K) -> Status
+    ensures { MatchOption (gen_sizes (codes "script") words.now)
+        (Delivers (side K.held K.faults sink.old sink.new) 2 usage_line result.code)
+        (λ sizes. Writes (GivesScript sizes) (side K.held K.faults sink.old sink.new) result.code) }
+{
+    match gen_sizes("script", words) {
+        Some(sizes) => gen_script(alloc, sizes, sink),
+        None => deliver(sink, Status { code: 2 }, USAGE.as_bytes()),
+    }
+}
+
+/// Writes the printed form of the script of some sizes, or the limit that they pass.
+pub fn gen_script<K: Sink>(alloc: Global, sizes: Sizes, sink: &mut K) -> Status
+    requires { SomeEach sizes }
+    ensures { Writes (GivesScript sizes) (side K.held K.faults sink.old sink.new) result.code }
+{
+    let answer = script_answer(alloc, sizes);
+    write_answer(sink, answer)
+}
+
+/// The answer where a script of some sizes is to be generated.
+fn script_answer(alloc: Global, sizes: Sizes) -> Result<Answer, Memory>
+    requires { SomeEach sizes }
+    ensures { IfOk result (λ answer. GivesScript sizes answer.status.code answer.text) }
+{
+    let nodes = at_most(sizes.nodes);
+    let workers = at_most(sizes.workers);
+    let requests = at_most(sizes.requests);
+    match generate(alloc, sizes.seed, nodes, workers, requests) {
+        Ok(script) => printed_script(alloc, &script),
+        Err(GenError::GenLimit { name, limit }) => passed_answer(alloc, name, limit),
+        Err(GenError::Memory) => Err(Memory),
+    }
+}
+
+/// The answer with the printed form of a script.
+fn printed_script(alloc: Global, script: &Script) -> Result<Answer, Memory>
+    requires { ScriptFits script.now }
+    ensures status { IfOk result (λ answer. answer.status.code ≡ 0) }
+    ensures text { IfOk result (λ answer. answer.text ≡ printed script.now) }
+{
+    Ok(Answer::printed(print(alloc, script)?))
+}
+
+/// A number, or the greatest one of 32 bits.
+fn at_most(n: u64) -> u32
+    ensures { result ≡ min n (2 ^ 32 - 1) }
+{
+    if n > u64::from(u32::MAX) {
+        u32::MAX
+    } else {
+        n as u32
+    }
+}
+
+/// The sizes behind two words: `gen`, and what is generated.
+pub fn gen_sizes(what: &str, words: &[String]) -> Option<Sizes>
+    ensures sizes { result ≡ gen_sizes what.now words.now }
+    ensures some { IfSome result SomeEach }
+{
+    match words {
+        [first, second, seed, nodes, workers, requests] => {
+            if first.as_str() == "gen" && second.as_str() == what {
+                sizes_of(seed, nodes, workers, requests)
+            } else {
+                None
+            }
+        }
+        _ => None,
+    }
+}
+
+/// The sizes that four words are.
+fn sizes_of(seed: &str, nodes: &str, workers: &str, requests: &str) -> Option<Sizes>
+    ensures sizes { result ≡ sizes_of seed.now nodes.now workers.now requests.now }
+    ensures some { IfSome result SomeEach }
+{
+    let seed = number_from(0, u64::from(u32::MAX), seed)?;
+    let nodes = number_from(1, u64::MAX, nodes)?;
+    let workers = number_from(1, u64::MAX, workers)?;
+    let requests = number_from(1, u64::MAX, requests)?;
+    Some(Sizes {
+        seed: seed as u32,
+        nodes,
+        workers,
+        requests,
+    })
+}
+
+/// The number from low to high that a word is, if it is one.
+fn number_from(low: u64, high: u64, word: &str) -> Option<u64>
+    ensures number { result ≡ number_from low high word.now }
+    ensures low { IfSome result (λ n. low ≤ n) }
+    ensures high { IfSome result (λ n. n ≤ high) }
+{
+    let n = number_of(word.as_bytes())?;
+    if n < low || n > high {
+        return None;
+    }
+    Some(n)
+}

@@ -1,0 +1,4 @@
+//! The session of a leader's workers, each in a thread of its own: what they decide is serial.
+#![tactic(auto)]
+
+pub mod laws;

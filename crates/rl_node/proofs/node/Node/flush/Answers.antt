@@ -1,0 +1,21 @@
+use Rattle.rl_nodes.specs.Works.{flushes}
+use Rattle.rl_node.specs.SetupOf.{setup_of}
+use Rattle.rl_node.proofs.Outer.{repeats_by, notes_done, notes_refused}
+use Rattle.rl_node.proofs.node.Node.flush.Goals as goal
+
+pub returns-in_err-check-clause-refused : goal.returns-in_err-check-clause-refused
+returns-in_err-check-clause-refused c =
+    let setup = setup_of c.args.setup.now in
+    repeats_by setup (λ a x. flushes setup a x c.args.worker) c.args.self.now c.in_err-check.field-0.0 c.from_residual.result c.in_err-check.ensures c.from_residual.ensures.1
+
+pub returns-clause-done : goal.returns-clause-done
+returns-clause-done c =
+    let setup = setup_of c.args.setup.now in
+    notes_done setup (λ a x. flushes setup a x c.args.worker) c.args.self.now c.flush_worker-answer.new.self c.note.new.self c.flush_worker-answer.result c.note.result
+    c.in_ok-check.ensures c.flush_worker-answer.ensures.tries c.note.ensures.node c.note.ensures.answer
+
+pub returns-clause-refused : goal.returns-clause-refused
+returns-clause-refused c =
+    let setup = setup_of c.args.setup.now in
+    notes_refused setup (λ a x. flushes setup a x c.args.worker) c.args.self.now c.flush_worker-answer.new.self c.note.new.self c.flush_worker-answer.result c.note.result
+    c.in_ok-check.ensures c.flush_worker-answer.ensures.tries c.note.ensures.node c.note.ensures.answer
