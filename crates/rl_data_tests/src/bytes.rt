@@ -1,12 +1,12 @@
 //! Sources and sinks, and what is read and written where a call fails.
 
-ghost use Rattle.std.specs.Prelude.{◌<◌, ◌≤◌, IfOk};
+ghost use Rattle.std.specs.Prelude.{◌≤◌, IfOk};
 
 use rl_base::list::{Bytes, Fails};
 use rl_io::memory_sink::MemSink;
 use rl_io::memory_source::MemSource;
 use rl_io::sink::{Sink, write_whole};
-use rl_io::source::{Failed, ReadError, Source, read_all};
+use rl_io::source::{ReadError, read_all};
 use rl_io::standard_sink::StdSink;
 use rl_io::standard_source::StdSource;
 use std::alloc::{AllocError, Global};
@@ -14,95 +14,12 @@ use std::io;
 use std::io::{Cursor, ErrorKind, Read, Write};
 use std::test::Fail;
 
-fn source(alloc: Global, chunk: usize, failing: u64) -> Result<MemSource, Fail>
-    requires { 0 < chunk }
-{
-    let mut fails = Fails::new(alloc);
-    fails.push(failing)?;
-    Ok(MemSource::new(Bytes::from_slice(alloc, b"seven b")?, chunk, fails))
-}
+/// How many bytes a reader gives at a call and which of its calls fails, or none; the last reads more than a source asks
+/// for at a time.
+const READS: [(usize, u32); 4] = [(20_000, 0), (20_000, 2), (4_096, 3), (5, 2)];
 
-#[test]
-fn all_bytes_are_read(rt: HostRuntime) -> Result<(), Fail> {
-    let mut whole = source(rt.alloc(), 3, 0)?;
-    assert_eq!(rt;
-        read_all(rt.alloc(), &mut whole, 7)?.as_slice(),
-        b"seven b".as_slice()
-    );
-    let mut long = source(rt.alloc(), 3, 0)?;
-    assert_eq!(rt;
-        read_all(rt.alloc(), &mut long, 6).err(),
-        Some(ReadError::TooLong { limit: 6 })
-    );
-    Ok(())
-}
-
-#[test]
-fn a_failing_read_ends_the_reading(rt: HostRuntime) -> Result<(), Fail> {
-    for failing in 1..5 {
-        let mut failed = source(rt.alloc(), 3, failing)?;
-        assert_eq!(rt;
-            read_all(rt.alloc(), &mut failed, 7).err(),
-            Some(ReadError::ReadFault)
-        );
-    }
-    Ok(())
-}
-
-/// Writes to a sink with this room, whose call of this number fails: whether all was written, and
-/// the sink.
-fn written(alloc: Global, room: usize, failing: u64) -> Result<(bool, MemSink), Fail> {
-    let mut fails = Fails::new(alloc);
-    fails.push(failing)?;
-    let mut sink = MemSink::new(alloc, 3, room, fails)?;
-    let is_whole = write_whole(&mut sink, b"seven b").is_ok();
-    Ok((is_whole, sink))
-}
-
-#[test]
-fn a_prefix_is_written_at_a_fault(rt: HostRuntime) -> Result<(), Fail> {
-    for (room, failing, held) in [
-        (10, 1, ""),
-        (10, 2, "sev"),
-        (10, 3, "seven "),
-        (10, 4, "seven b"),
-        (4, 0, "seve"),
-    ] {
-        let (is_whole, sink) = written(rt.alloc(), room, failing)?;
-        assert_eq!(rt; is_whole, failing == 4);
-        assert_eq!(rt; sink.bytes(), held.as_bytes());
-    }
-    Ok(())
-}
-
-/// A writer that takes nothing.
-#[derive(Drop)]
-struct Full;
-
-impl Write for Full {
-    fn write(&mut self, _buf: &[u8]) -> io::Result<usize> {
-        Ok(0)
-    }
-
-    fn flush(&mut self) -> io::Result<()> {
-        Ok(())
-    }
-}
-
-#[test]
-fn readers_and_writers_of_std_serve(rt: HostRuntime) -> Result<(), Fail> {
-    let mut source = StdSource::new(Cursor::new(b"some bytes"));
-    assert_eq!(rt;
-        read_all(rt.alloc(), &mut source, 10)?.as_slice(),
-        b"some bytes".as_slice()
-    );
-    let mut sink = StdSink::new(Vec::new(rt.alloc()));
-    assert_eq!(rt; sink.write(b"some bytes"), Ok(10));
-    let mut full = StdSink::new(Full);
-    assert_eq!(rt; full.write(b"some bytes"), Err(Failed));
-    assert_eq!(rt; full.write(b""), Ok(0));
-    Ok(())
-}
+/// Which call of a writer that takes 3 bytes at a time fails, or none, and what it has taken at the end.
+const WRITES: [(u32, &str); 4] = [(0, "some bytes"), (1, ""), (2, "som"), (4, "some byte")];
 
 /// Takes or gives at most `step` bytes at a call, and fails at one of its calls, which are counted
 /// from 1.
@@ -150,6 +67,15 @@ fn many_bytes(alloc: Global) -> Result<Vec<u8>, AllocError> {
 }
 
 #[test]
+fn all_bytes_are_read(rt: HostRuntime) -> Result<(), Fail> {
+    let bytes = Bytes::from_slice(rt.alloc(), b"seven b")?;
+    let mut source = MemSource::new(bytes, 3, Fails::new(rt.alloc()));
+    let read = read_all(rt.alloc(), &mut source, 7)?;
+    assert_eq!(rt; read.as_slice(), b"seven b".as_slice());
+    Ok(())
+}
+
+#[test]
 fn each_write_is_handed_all_that_are_to_go(rt: HostRuntime) -> Result<(), Fail> {
     let bytes = many_bytes(rt.alloc())?;
     let mut fails = Fails::new(rt.alloc());
@@ -163,7 +89,7 @@ fn each_write_is_handed_all_that_are_to_go(rt: HostRuntime) -> Result<(), Fail> 
 #[test]
 fn errors_of_readers_of_std_end_the_reading(rt: HostRuntime) -> Result<(), Fail> {
     let bytes = many_bytes(rt.alloc())?;
-    for (step, failing) in [(20_000, 0), (20_000, 2), (4_096, 3), (5, 2)] {
+    for (step, failing) in READS {
         let mut source = StdSource::new(Halting {
             inner: Cursor::new(bytes.as_slice()),
             step,
@@ -180,7 +106,7 @@ fn errors_of_readers_of_std_end_the_reading(rt: HostRuntime) -> Result<(), Fail>
 
 #[test]
 fn errors_of_writers_of_std_end_the_writing(rt: HostRuntime) -> Result<(), Fail> {
-    for (failing, held) in [(0, "some bytes"), (1, ""), (2, "som"), (4, "some byte")] {
+    for (failing, held) in WRITES {
         let mut taken = Vec::new(rt.alloc());
         let outcome = {
             let mut sink = StdSink::new(Halting {
@@ -195,4 +121,16 @@ fn errors_of_writers_of_std_end_the_writing(rt: HostRuntime) -> Result<(), Fail>
         assert_eq!(rt; taken.as_slice(), held.as_bytes());
     }
     Ok(())
+}
+
+#[test]
+fn a_writer_that_takes_nothing_is_a_fault(rt: HostRuntime) {
+    let mut sink = StdSink::new(Halting {
+        inner: Vec::new(rt.alloc()),
+        step: 0,
+        failing: 0,
+        calls: 0,
+    });
+    assert!(rt; write_whole(&mut sink, b"some bytes").is_err());
+    assert_eq!(rt; sink.write(b""), Ok(0));
 }

@@ -21,6 +21,40 @@ enum One {
     Idle(u32, u64),
 }
 
+/// Logs of two streams, with their watermark and the stamps along their history: a stream that is ahead, one that is
+/// silent, one that is idle, and what is cut where an epoch ends.
+const FAMILIES: [(&[One], &[One], (u32, u64), &[(u32, u64)]); 4] = [
+    (
+        &[One::Opened(1), One::Item(1, 10)],
+        &[One::Opened(1), One::Item(1, 7), One::Opened(2)],
+        (1, 7),
+        &[(1, 7)],
+    ),
+    (
+        &[One::Opened(1), One::Item(1, 2)],
+        &[One::Opened(1)],
+        (1, 1),
+        &[],
+    ),
+    (
+        &[One::Opened(1), One::Item(1, 2)],
+        &[One::Opened(1), One::Idle(1, 2)],
+        (1, 2),
+        &[(1, 2)],
+    ),
+    (
+        &[
+            One::Opened(1),
+            One::Item(1, 2),
+            One::Item(1, 4),
+            One::Opened(2),
+        ],
+        &[One::Opened(1), One::Item(1, 3), One::Opened(2)],
+        (2, 1),
+        &[(1, 2), (1, 3)],
+    ),
+];
+
 fn batch_of(alloc: Global, one: One) -> Result<Batch, Memory>
     ensures { IfOk result (λ batch. length (stamps_in_batch batch) ≡ 1) }
 {
@@ -83,34 +117,18 @@ fn decides(
 
 #[test]
 fn what_counts(rt: HostRuntime) -> Result<(), Fail> {
-    let alloc = rt.alloc();
-    let first = [One::Opened(1), One::Item(1, 2)];
-    let silent = family_of(alloc, &first, &[One::Opened(1)])?;
-    decides(&rt, alloc, &silent, (1, 1), &[])?;
-    let idle = family_of(alloc, &first, &[One::Opened(1), One::Idle(1, 2)])?;
-    decides(&rt, alloc, &idle, (1, 2), &[(1, 2)])?;
-    let first = [
-        One::Opened(1),
-        One::Item(1, 2),
-        One::Item(1, 4),
-        One::Opened(2),
-    ];
-    let cut = family_of(
-        alloc,
-        &first,
-        &[One::Opened(1), One::Item(1, 3), One::Opened(2)],
-    )?;
-    decides(&rt, alloc, &cut, (2, 1), &[(1, 2), (1, 3)])?;
+    for (first, second, watermark, history) in FAMILIES {
+        let family = family_of(rt.alloc(), first, second)?;
+        decides(&rt, rt.alloc(), &family, watermark, history)?;
+    }
     Ok(())
 }
 
 #[test]
 fn a_stream_ahead(rt: HostRuntime) -> Result<(), Fail> {
     let alloc = rt.alloc();
-    let first = [One::Opened(1), One::Item(1, 10)];
-    let second = [One::Opened(1), One::Item(1, 7), One::Opened(2)];
-    let mut family = family_of(alloc, &first, &second)?;
-    decides(&rt, alloc, &family, (1, 7), &[(1, 7)])?;
+    let (first, second, _, _) = FAMILIES[0];
+    let mut family = family_of(alloc, first, second)?;
     assert_eq!(rt; family.bound(1), Bound::Rising { seq: 7 });
     assert_eq!(rt; family.bound(2), Bound::Beyond);
     extend(alloc, &mut family, 1, One::Opened(2))?;

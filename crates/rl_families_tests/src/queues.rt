@@ -5,6 +5,16 @@ use rl_base::list::Seq;
 use rl_base::stamp::Stamp;
 use rl_release::queue::Queue;
 
+/// Up to which seq a reply is released, and the seq of the one that is.
+const RELEASES: [(u64, Option<u64>); 6] = [
+    (1, None),
+    (3, Some(2)),
+    (3, None),
+    (4, Some(4)),
+    (4, Some(3)),
+    (9, None),
+];
+
 fn released(queue: &mut Queue, seq: u64) -> Option<u64> {
     let item = queue.release((1 << 40) + seq % 1000)?;
     Some(item.stamp.seq)
@@ -19,15 +29,7 @@ fn in_order_up_to_a_stamp(rt: HostRuntime) {
         let stamp = Stamp { epoch: 1, seq };
         assert!(rt; queue.push(item(alloc, stamp, Seq::new(alloc))).is_ok());
     }
-    let table = [
-        (1, None),
-        (3, Some(2)),
-        (3, None),
-        (4, Some(4)),
-        (4, Some(3)),
-        (9, None),
-    ];
-    for (upto, want) in table {
+    for (upto, want) in RELEASES {
         assert_eq!(rt; released(&mut queue, upto), want);
     }
 }
