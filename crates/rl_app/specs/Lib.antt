@@ -6,4 +6,6 @@ pub mod Running
 pub mod Runs
 pub mod Serial
 pub mod Serve
+pub mod Sim
+pub mod Simulating
 pub mod Steps

@@ -2,17 +2,19 @@
 
 ghost use Rattle.std.specs.Prelude.{◌≡◌, ◌⊎◌, ℕ, List, Some, None, IfSome};
 ghost use Rattle.rl_app.specs.declared.command.Form.{Form};
-ghost use Rattle.rl_app.specs.Answers.{Reports};
+ghost use Rattle.rl_app.specs.Answers.{AnswersScript, Reports};
 ghost use Rattle.rl_app.specs.declared.generator.Sizes.{Sizes};
 ghost use Rattle.rl_app.specs.Command.{form_of, plain_form, usage_line};
 ghost use Rattle.rl_app.specs.Gen.{GivesScript, SomeEach};
 ghost use Rattle.rl_app.specs.Serial.{IsReport};
 ghost use Rattle.rl_app.specs.Serve.{Delivers, Serves, Writes, side};
+ghost use Rattle.rl_app.specs.Sim.{GivesWorld};
 ghost use Rattle.rl_app.specs.Steps.{IsStepsReport};
 
 use crate::answer::{Status, deliver};
 use crate::generator::{Sizes, gen_script, gen_sizes};
 use crate::serial::serial;
+use crate::sim::sim;
 use crate::steps::steps;
 use rl_base::limit::SCRIPT;
 use rl_io::sink::Sink;
@@ -28,11 +30,12 @@ pub const USAGE: &str =
 pub enum Form {
     Serial,
     Steps,
+    Sim,
     /// `gen script`, with what is generated.
     GenScript(Sizes),
 }
 
-/// Does all that the program does. The one word `serial` or `steps` is the command of this name, and
+/// Does all that the program does. The one word `serial`, `steps` or `sim` is the command of this name, and
 /// `gen script SEED NODES WORKERS REQUESTS` is another; all other words are status 2.
 ///
 /// Status 0 with the report, or the generated script; 2 where the words are no command; 3 where
@@ -54,6 +57,10 @@ pub fn rolis<S: Source, K: Sink>(
         (side S.left S.faults source.old source.new)
         (side K.held K.faults sink.old sink.new)
         result.code }
+    ensures sim { form_of words.now ≡ Some Form.Sim → Serves (AnswersScript GivesWorld) SCRIPT
+        (side S.left S.faults source.old source.new)
+        (side K.held K.faults sink.old sink.new)
+        result.code }
     ensures gen_script { (sizes : Sizes) → form_of words.now ≡ Some (Form.GenScript sizes) → (source.new ≡ source.old)
         × Writes (GivesScript sizes) (side K.held K.faults sink.old sink.new) result.code }
     ensures usage { form_of words.now ≡ None → (source.new ≡ source.old)
@@ -62,6 +69,7 @@ pub fn rolis<S: Source, K: Sink>(
     match form_of(words) {
         Some(Form::Serial) => serial(alloc, source, sink),
         Some(Form::Steps) => steps(alloc, source, sink),
+        Some(Form::Sim) => sim(alloc, source, sink),
         Some(Form::GenScript(sizes)) => gen_script(alloc, sizes, sink),
         None => deliver(sink, Status { code: 2 }, USAGE.as_bytes()),
     }
@@ -85,6 +93,7 @@ fn plain_form(word: &str) -> Option<Form>
     match word {
         "serial" => Some(Form::Serial),
         "steps" => Some(Form::Steps),
+        "sim" => Some(Form::Sim),
         _ => None,
     }
 }

@@ -9,4 +9,5 @@ mod report;
 mod run;
 pub mod serial;
 mod serve;
+pub mod sim;
 pub mod steps;

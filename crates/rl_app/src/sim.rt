@@ -1,0 +1,122 @@
+//! The command `sim`: the events of a script, on all nodes.
+
+ghost use Rattle.std.specs.Prelude.{◌≡◌, ◌<◌, ◌-◌, ◌^◌, ◌⊎◌, ℕ, List, [], IfOk, MatchResult, length};
+ghost use Rattle.rl_events.specs.declared.event.Event.{Event};
+ghost use Rattle.rl_nodes.specs.Events.{expanded_events, world_after};
+ghost use Rattle.rl_nodes.specs.Reports.{report_of};
+ghost use Rattle.rl_nodes.specs.Setups.{Setup};
+ghost use Rattle.rl_report.specs.Printed.{printed};
+ghost use Rattle.rl_script.specs.Fits.{ScriptFits};
+ghost use Rattle.rl_world.specs.Reported.{reported};
+ghost use Rattle.rl_world.specs.Scripts.{setup_of};
+ghost use Rattle.rl_world.specs.Worlds.{IsCause, StandsFor};
+ghost use Rattle.rl_app.specs.Answers.{AnswersScript};
+ghost use Rattle.rl_app.specs.Serve.{IsAnswered, Serves, side};
+ghost use Rattle.rl_app.specs.Sim.{GivesWorld};
+ghost use Rattle.rl_app.specs.Simulating.{CanTake, taken};
+
+use crate::answer::{Answer, Status, passed_answer};
+use crate::input::read_script;
+use crate::serve::{Command, serve};
+use rl_base::limit::SCRIPT;
+use rl_base::memory::Memory;
+use rl_events::event::Events;
+use rl_events::expand::{ExpandError, expand};
+use rl_io::sink::Sink;
+use rl_io::source::Source;
+use rl_report::printed::print_report;
+use rl_safe::laws::every_run_is_safe;
+use rl_script::script::Script;
+use rl_world::laws::scripts_make_setups;
+use rl_world::world::World;
+use rl_world::world_error::WorldError;
+use std::alloc::Global;
+
+/// Reads a script and writes the report of the world after its events: whatever its steps, deliveries,
+/// losses, repeats, reorderings, elections and crashes, the released transactions in the order of their
+/// stamps are a prefix of one serial history; each replica at its watermark holds exactly a prefix of it;
+/// each leader opens with everything that leaders of earlier epochs release; and a commit is refused only
+/// where a record that it had observed changed or one that it needed was locked by another worker.
+///
+/// The statuses are those of `serial`; at 4 the limit can also be that of the batches of a stream or of
+/// the bytes of all messages.
+pub fn sim<S: Source, K: Sink>(alloc: Global, source: &mut S, sink: &mut K) -> Status
+    ensures { Serves (AnswersScript GivesWorld) SCRIPT
+        (side S.left S.faults source.old source.new)
+        (side K.held K.faults sink.old sink.new)
+        result.code }
+{
+    serve(alloc, &mut SimCommand, SCRIPT, source, sink)
+}
+
+/// The command.
+#[derive(Drop)]
+struct SimCommand;
+
+impl Command for SimCommand {
+    ghost answers = { λ _ _. AnswersScript GivesWorld };
+
+    fn answer(&mut self, alloc: Global, input: &[u8]) -> Result<Answer, Memory> {
+        match read_script(alloc, input)? {
+            Ok(script) => world_answer(alloc, script),
+            Err(refused) => Ok(refused),
+        }
+    }
+}
+
+/// The answer to a script: the report of the world after its events, or the limit that they pass.
+fn world_answer(alloc: Global, script: Script) -> Result<Answer, Memory>
+    requires { ScriptFits script }
+    ensures gives { IfOk result (λ answer. GivesWorld script answer.status.code answer.text) }
+    ensures answered { IfOk result (λ answer. IsAnswered answer.status.code) }
+{
+    // For the proof alone: the laws of every run.
+    every_run_is_safe();
+    scripts_make_setups();
+    let events = events_of(alloc, &script)?;
+    let mut world = World::new(alloc, script)?;
+    match take_all(alloc, &mut world, &events) {
+        Ok(()) => report_answer(alloc, &world),
+        Err(WorldError::Limit { name, limit }) => passed_answer(alloc, name, limit),
+        Err(WorldError::Memory) => Err(Memory),
+    }
+}
+
+/// The events of a script, with those that its seed draws in the place of each random one.
+fn events_of(alloc: Global, script: &Script) -> Result<Events, Memory>
+    requires { ScriptFits script.now }
+    ensures events { IfOk result (λ events. events ≡ expanded_events (setup_of script.now) script.now.events) }
+    ensures can { IfOk result (CanTake (setup_of script.now)) }
+{
+    match expand(alloc, &script.events, script.nodes, script.workers) {
+        Ok(events) => Ok(events),
+        Err(ExpandError::Memory) => Err(Memory),
+        Err(ExpandError::TooManyEvents { .. }) => unreachable!(),
+    }
+}
+
+/// A new world takes some events, up to the first that it refuses.
+fn take_all(alloc: Global, world: &mut World, events: &Events) -> Result<(), WorldError>
+    requires new { world.old ≡ taken world.old.setup [] }
+    requires can { CanTake world.old.setup events.now }
+    ensures { let setup = world.old.setup in MatchResult result
+        (λ _. world.new ≡ taken setup events.now)
+        (λ error. IsCause (world_after setup events.now) error) }
+{
+    // For the proof alone: a run goes on from where its first events came to.
+    runs_go_on();
+    for event in events.as_slice() {
+        world.event(alloc, event)?;
+    }
+    Ok(())
+}
+
+/// The answer with the report of a world.
+fn report_answer(alloc: Global, world: &World) -> Result<Answer, Memory>
+    ensures status { IfOk result (λ answer. answer.status.code ≡ 0) }
+    ensures text { let setup = world.now.setup in IfOk result (λ answer. StandsFor world.now
+        (λ w. answer.text ≡ printed (reported setup.program.tables (report_of setup w)))) }
+{
+    let report = world.report(alloc)?;
+    Ok(Answer::printed(print_report(alloc, &report)?))
+}
