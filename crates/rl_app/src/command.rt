@@ -39,10 +39,16 @@ pub enum Form {
 /// `gen script SEED NODES WORKERS REQUESTS` is another; all other words are status 2.
 ///
 /// Status 0 with the report, or the generated script; 2 where the words are no command; 3 where
-/// the input breaks a rule of the language; 4 where it has more than 4,194,304 bytes, or a limit is
-/// passed; 5 where a read failed; 6 where a write failed, with a prefix of the text written; 7 where
+/// the input breaks a rule of the language; 4 where it has more than 4,194,304 bytes, or a limit of the
+/// language or of a run is passed; 5 where a read failed; 6 where a write failed, with a prefix of the text written; 7 where
 /// there was no memory. At 2, 3, 4, 5 and 7 the one line of the status is written. Where the words are
 /// no command, and by `gen`, nothing is read.
+///
+/// What `sim` reports is safe. For every script, whatever its steps, deliveries, losses, repeats,
+/// reorderings, elections and crashes, the released transactions in the order of their stamps are a prefix
+/// of one serial history; each replica at its watermark holds exactly a prefix of it; each leader opens
+/// with everything that leaders of earlier epochs release; and a commit is refused only where a record
+/// that it had observed changed or one that it needed was locked by another worker.
 pub fn rolis<S: Source, K: Sink>(
     alloc: Global,
     words: &[String],

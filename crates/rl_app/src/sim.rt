@@ -24,6 +24,7 @@ use rl_events::event::Events;
 use rl_events::expand::{ExpandError, expand};
 use rl_io::sink::Sink;
 use rl_io::source::Source;
+use rl_nodes::laws::runs_go_on;
 use rl_report::printed::print_report;
 use rl_safe::laws::every_run_is_safe;
 use rl_script::script::Script;
@@ -32,11 +33,14 @@ use rl_world::world::World;
 use rl_world::world_error::WorldError;
 use std::alloc::Global;
 
-/// Reads a script and writes the report of the world after its events: whatever its steps, deliveries,
-/// losses, repeats, reorderings, elections and crashes, the released transactions in the order of their
-/// stamps are a prefix of one serial history; each replica at its watermark holds exactly a prefix of it;
-/// each leader opens with everything that leaders of earlier epochs release; and a commit is refused only
-/// where a record that it had observed changed or one that it needed was locked by another worker.
+/// Reads a script and writes the report of the world after its events, in which all nodes stand as those
+/// events left them, up to the last: each event happens where it may, and does nothing elsewhere.
+///
+/// For every script, whatever its steps, deliveries, losses, repeats, reorderings, elections and crashes,
+/// the released transactions in the order of their stamps are a prefix of one serial history; each replica
+/// at its watermark holds exactly a prefix of it; each leader opens with everything that leaders of earlier
+/// epochs release; and a commit is refused only where a record that it had observed changed or one that it
+/// needed was locked by another worker.
 ///
 /// The statuses are those of `serial`; at 4 the limit can also be that of the batches of a stream or of
 /// the bytes of all messages.
