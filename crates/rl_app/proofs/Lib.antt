@@ -5,4 +5,5 @@ pub mod Opened
 pub mod Reported
 pub mod Runs
 pub mod Served
+pub mod Simulated
 pub mod Stepping

@@ -5,6 +5,7 @@ use Rattle.rl_script.specs.declared.script.Script.{Script}
 use Rattle.rl_nodes.specs.Events.{world_after}
 use Rattle.rl_nodes.specs.Reports.{report_of}
 use Rattle.rl_nodes.specs.Safe.{Safe}
+use Rattle.rl_nodes.specs.Setups.{Setup}
 use Rattle.rl_nodes.specs.World.{World}
 use Rattle.rl_report.specs.Printed.{printed}
 use Rattle.rl_world.specs.Reported.{reported}
@@ -12,13 +13,13 @@ use Rattle.rl_world.specs.Scripts.{setup_of}
 use Rattle.rl_world.specs.Worlds.{limit_of}
 use Rattle.rl_app.specs.Serve.{limit_line}
 
--- the report of a script's world, which is safe, whatever the script's steps, deliveries, losses, repeats, elections and crashes
-pub record IsSimReport (script : Script) (w : World) (text : List ℕ) : Type 0 where
-  pub printed : text ≡ printed (reported script.schema (report_of (setup_of script) w))
-  pub safe : Safe (setup_of script) w
+-- the report of a world, which is safe
+pub record IsSimReport (setup : Setup) (w : World) (text : List ℕ) : Type 0 where
+  pub printed : text ≡ printed (reported setup.program.tables (report_of setup w))
+  pub safe : Safe setup w
 
 -- the answer to a script: the report of the world that its events make of new nodes, or the limit that they pass
 abbrev pub GivesWorld : Script → ℕ → List ℕ → Type 0
 GivesWorld script status text = MatchResult (world_after (setup_of script) script.events)
-    (λ w. (status ≡ 0) × IsSimReport script w text)
+    (λ w. (status ≡ 0) × IsSimReport (setup_of script) w text)
     (λ limit. (status ≡ 4) × (text ≡ limit_line (limit_name limit) (limit_of limit)))

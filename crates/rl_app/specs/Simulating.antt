@@ -5,14 +5,18 @@ use Rattle.rl_events.specs.Expanded.{IsNotRandom}
 use Rattle.rl_events.specs.Fits.{EventFits, count_of}
 use Rattle.rl_events.specs.declared.event.Event.{Event}
 use Rattle.rl_nodes.specs.Setups.{Setup}
+use Rattle.rl_node.specs.SetupOf.{setup_of}
 use Rattle.rl_world.specs.Worlds.{Taken}
 
--- events that a world of a setup takes one after another
-pub record CanTake (setup : Setup) (events : List Event) : Type 0 where
+-- events that a new world of a setup may be given, one after another
+pub record CanBeGiven (setup : Setup) (events : List Event) : Type 0 where
   pub fit : All (EventFits setup.nodes setup.workers) events
   pub not_random : All IsNotRandom events
   pub counted : sum_by count_of events ≤ EVENTS
 
--- a world that took these events, and refused none
-abbrev pub taken : Setup → List Event → Taken
-taken setup events = record { setup = setup; events = events; counted = sum_by count_of events; failed = None }
+-- a world of a setup that took some events, and refused none
+pub record HasTaken (setup : Setup) (events : List Event) (x : Taken) : Type 0 where
+  pub setup : setup_of x.setup ≡ setup
+  pub events : x.events ≡ events
+  pub counted : x.counted ≡ sum_by count_of events
+  pub failed : x.failed ≡ None

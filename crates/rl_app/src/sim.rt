@@ -1,19 +1,15 @@
 //! The command `sim`: the events of a script, on all nodes.
 
-ghost use Rattle.std.specs.Prelude.{◌≡◌, ◌<◌, ◌-◌, ◌^◌, ◌⊎◌, ℕ, List, [], IfOk, MatchResult, length};
-ghost use Rattle.rl_events.specs.declared.event.Event.{Event};
+ghost use Rattle.std.specs.Prelude.{◌≡◌, ◌<◌, ◌-◌, ◌^◌, ◌⊎◌, ℕ, List, [], None, IfOk, MatchResult, length};
 ghost use Rattle.rl_nodes.specs.Events.{expanded_events, world_after};
-ghost use Rattle.rl_nodes.specs.Reports.{report_of};
-ghost use Rattle.rl_nodes.specs.Setups.{Setup};
-ghost use Rattle.rl_report.specs.Printed.{printed};
+ghost use Rattle.rl_node.specs.SetupOf.{setup_of};
 ghost use Rattle.rl_script.specs.Fits.{ScriptFits};
-ghost use Rattle.rl_world.specs.Reported.{reported};
-ghost use Rattle.rl_world.specs.Scripts.{setup_of};
+ghost use Rattle.rl_world.specs.Scripts as scripts;
 ghost use Rattle.rl_world.specs.Worlds.{IsCause, StandsFor};
 ghost use Rattle.rl_app.specs.Answers.{AnswersScript};
 ghost use Rattle.rl_app.specs.Serve.{IsAnswered, Serves, side};
-ghost use Rattle.rl_app.specs.Sim.{GivesWorld};
-ghost use Rattle.rl_app.specs.Simulating.{CanTake, taken};
+ghost use Rattle.rl_app.specs.Sim.{GivesWorld, IsSimReport};
+ghost use Rattle.rl_app.specs.Simulating.{CanBeGiven, HasTaken};
 
 use crate::answer::{Answer, Status, passed_answer};
 use crate::input::read_script;
@@ -26,9 +22,8 @@ use rl_io::sink::Sink;
 use rl_io::source::Source;
 use rl_nodes::laws::runs_go_on;
 use rl_report::printed::print_report;
-use rl_safe::laws::every_run_is_safe;
 use rl_script::script::Script;
-use rl_world::laws::scripts_make_setups;
+use rl_world::laws::expanded_runs_are_runs;
 use rl_world::world::World;
 use rl_world::world_error::WorldError;
 use std::alloc::Global;
@@ -74,9 +69,8 @@ fn world_answer(alloc: Global, script: Script) -> Result<Answer, Memory>
     ensures gives { IfOk result (λ answer. GivesWorld script answer.status.code answer.text) }
     ensures answered { IfOk result (λ answer. IsAnswered answer.status.code) }
 {
-    // For the proof alone: the laws of every run.
-    every_run_is_safe();
-    scripts_make_setups();
+    // For the proof alone: random events may be written out.
+    expanded_runs_are_runs();
     let events = events_of(alloc, &script)?;
     let mut world = World::new(alloc, script)?;
     match take_all(alloc, &mut world, &events) {
@@ -89,8 +83,8 @@ fn world_answer(alloc: Global, script: Script) -> Result<Answer, Memory>
 /// The events of a script, with those that its seed draws in the place of each random one.
 fn events_of(alloc: Global, script: &Script) -> Result<Events, Memory>
     requires { ScriptFits script.now }
-    ensures events { IfOk result (λ events. events ≡ expanded_events (setup_of script.now) script.now.events) }
-    ensures can { IfOk result (CanTake (setup_of script.now)) }
+    ensures events { IfOk result (λ events. events ≡ expanded_events (scripts.setup_of script.now) script.now.events) }
+    ensures can { IfOk result (CanBeGiven (scripts.setup_of script.now)) }
 {
     match expand(alloc, &script.events, script.nodes, script.workers) {
         Ok(events) => Ok(events),
@@ -99,15 +93,15 @@ fn events_of(alloc: Global, script: &Script) -> Result<Events, Memory>
     }
 }
 
-/// A new world takes some events, up to the first that it refuses.
+/// A new world is given some events, up to the first that it refuses.
 fn take_all(alloc: Global, world: &mut World, events: &Events) -> Result<(), WorldError>
-    requires new { world.old ≡ taken world.old.setup [] }
-    requires can { CanTake world.old.setup events.now }
-    ensures { let setup = world.old.setup in MatchResult result
-        (λ _. world.new ≡ taken setup events.now)
-        (λ error. IsCause (world_after setup events.now) error) }
+    requires new { HasTaken (setup_of world.old.setup) [] world.old }
+    requires can { CanBeGiven (setup_of world.old.setup) events.now }
+    ensures { let setup = setup_of world.old.setup in MatchResult result
+        (λ _. HasTaken setup events.now world.new)
+        (IsCause (world_after setup events.now)) }
 {
-    // For the proof alone: a run goes on from where its first events came to.
+    // For the proof alone: a limit that the first events pass is that of all.
     runs_go_on();
     for event in events.as_slice() {
         world.event(alloc, event)?;
@@ -115,11 +109,12 @@ fn take_all(alloc: Global, world: &mut World, events: &Events) -> Result<(), Wor
     Ok(())
 }
 
-/// The answer with the report of a world.
+/// The answer with the report of a world that refused no event.
 fn report_answer(alloc: Global, world: &World) -> Result<Answer, Memory>
+    requires { world.now.failed ≡ None }
     ensures status { IfOk result (λ answer. answer.status.code ≡ 0) }
-    ensures text { let setup = world.now.setup in IfOk result (λ answer. StandsFor world.now
-        (λ w. answer.text ≡ printed (reported setup.program.tables (report_of setup w)))) }
+    ensures report { let setup = setup_of world.now.setup in
+        StandsFor world.now (λ w. IfOk result (λ answer. IsSimReport setup w answer.text)) }
 {
     let report = world.report(alloc)?;
     Ok(Answer::printed(print_report(alloc, &report)?))

@@ -1,0 +1,121 @@
+-- A new world is given the events of a script, one after another, and then reports.
+use Rattle.std.proofs.Common.{◌≡◌, ℕ, ◌+◌, ◌<◌, ◌≤◌, List, [], ◌∷◌, ◌++◌, length, take, drop, get_or, sum_by, All, MatchOption, None, Result, Ok, Err, IfOk, MatchResult, refl, sym, ap, ◌∙◌, subst, arith, inl, inr}
+use Rattle.std.proofs.lemmas.List.{take_more, take-append-drop}
+use Rattle.std.proofs.lemmas.List.Sums.{sum_by-append, sum_by-cons, sum_by_more_le}
+use Rattle.rl_base.specs.Results.{◌>>=◌}
+use Rattle.rl_base.specs.declared.limit.LimitName.{LimitName}
+use Rattle.rl_base.specs.declared.limit.TheConstants.{EVENTS}
+use Rattle.rl_base.specs.declared.memory.Memory.{Memory}
+use Rattle.rl_events.specs.Expanded.{IsNotRandom}
+use Rattle.rl_events.specs.Fits.{EventFits, count_of}
+use Rattle.rl_events.specs.declared.event.Event.{Event}
+use Rattle.rl_nodes.specs.Events.{after_events, expanded_events, world_after}
+use Rattle.rl_nodes.specs.Setups.{Setup}
+use Rattle.rl_nodes.specs.World.{World, Ran}
+use Rattle.rl_nodes.specs.Laws.{RunsGoOn}
+use Rattle.rl_node.specs.SetupOf.{setup_of}
+use Rattle.rl_script.specs.LimitNames.{limit_name}
+use Rattle.rl_script.specs.declared.script.Script.{Script}
+use Rattle.rl_world.specs.Laws.{ExpandedRunsAreRuns}
+use Rattle.rl_world.specs.Scripts as scripts
+use Rattle.rl_world.specs.Worlds.{Taken, IsNew, IsCause, StandsFor, TakesEvent, RefusesEvent, with_event, limit_of}
+use Rattle.rl_world.specs.declared.world_error.WorldError.{WorldError}
+use Rattle.rl_world.specs.declared.world_error.WorldError.TheVariants as world
+use Rattle.rl_app.specs.declared.answer.Answer.{Answer}
+use Rattle.rl_app.specs.Serve.{IsAnswered, limit_line}
+use Rattle.rl_app.specs.Sim.{GivesWorld, IsSimReport}
+use Rattle.rl_app.specs.Simulating.{CanBeGiven, HasTaken}
+
+-- ---- events ----
+
+-- a limit that the first events pass is that of all
+passed : RunsGoOn → (setup : Setup) (events more : List Event) (error : WorldError) → IsCause (world_after setup events) error → IsCause (world_after setup (events ++ more)) error
+passed go_on setup events more (world.Limit name limit) cause =
+    (go_on setup events more ∙ ap (λ (ran : Ran). ran >>= after_events setup (expanded_events setup more)) cause.0, cause.1)
+passed go_on setup events more world.Memory cause = tt
+
+module _ (setup : Setup) (events : List Event) (can : CanBeGiven setup events) (i : ℕ) (e : Event) (within : i < length events) (is : e ≡ get_or events i e)
+  (x : Taken) (has : HasTaken setup (take i events) x) where
+  at : (P : Event → Type 0) → All P events → P e
+  at P all = subst P (sym is) (all i e within)
+
+  more : take (i + 1) events ≡ take i events ++ e ∷ []
+  more = take_more events i e within ∙ ap (λ z. take i events ++ z ∷ []) (sym is)
+
+  counts : sum_by count_of (take (i + 1) events) ≡ sum_by count_of (take i events) + count_of e
+  counts =
+      let whole = ap (λ es. sum_by count_of es) more in
+      omega (arith, whole, sum_by-append count_of (take i events) (e ∷ []), sum_by-cons count_of e [])
+
+  -- the next event may be given
+  pub fits : EventFits (setup_of x.setup).nodes (setup_of x.setup).workers e
+  fits = subst (λ (s : Setup). EventFits s.nodes s.workers e) (sym has.setup) (at (EventFits setup.nodes setup.workers) can.fit)
+
+  pub plain : IsNotRandom e
+  plain = at IsNotRandom can.not_random
+
+  pub room : x.counted + count_of e ≤ EVENTS
+  room =
+      let it = ap count_of is in
+      omega (arith, has.counted, sum_by_more_le count_of events i e within, it, can.counted)
+
+  -- and is taken
+  pub taken : (y : Taken) → TakesEvent x y e → HasTaken setup (take (i + 1) events) y
+  taken y takes = record {
+    setup = ap (λ (z : Taken). setup_of z.setup) takes.now ∙ has.setup;
+    events = ap (λ (z : Taken). z.events) takes.now ∙ ap (λ es. es ++ e ∷ []) has.events ∙ sym more;
+    counted = ap (λ (z : Taken). z.counted) takes.now ∙ ap (λ n. n + count_of e) has.counted ∙ sym counts;
+    failed = ap (λ (z : Taken). z.failed) takes.now;
+  }
+
+  -- or passes a limit
+  pub refused : RunsGoOn → (y : Taken) (error : WorldError) → RefusesEvent x y e error → IsCause (world_after setup events) error
+  refused go_on y error refuses =
+      let first : IsCause (with_event x e) error = subst (λ failed. MatchOption failed (IsCause (with_event x e) error) (λ f. error ≡ f)) has.failed refuses.why in
+      let due : with_event x e ≡ world_after setup (take (i + 1) events) =
+      ap (λ (s : Setup). world_after s (x.events ++ e ∷ [])) has.setup ∙ ap (λ es. world_after setup (es ++ e ∷ [])) has.events ∙ ap (world_after setup) (sym more) in
+      let all = passed go_on setup (take (i + 1) events) (drop (i + 1) events) error (subst (λ (ran : Ran). IsCause ran error) due first) in
+      subst (λ es. IsCause (world_after setup es) error) (take-append-drop (i + 1) events) all
+
+-- ---- the answer ----
+
+-- a new world has taken no event
+pub new_has : (script : Script) (x : Taken) → IsNew script x → HasTaken (setup_of x.setup) [] x
+new_has script x new = record { setup = refl; events = new.events; counted = new.counted; failed = new.failed }
+
+module _ (script : Script) (events : List Event) (runs : ExpandedRunsAreRuns) (are : events ≡ expanded_events (scripts.setup_of script) script.events) where
+  setup : Setup
+  setup = scripts.setup_of script
+
+  same : world_after setup events ≡ world_after setup script.events
+  same = ap (world_after setup) are ∙ runs setup script.events
+
+  -- the report of the world that the events make
+  pub reports : (x : Taken) → HasTaken setup events x → (r : Result Answer Memory) → IfOk r (λ answer. answer.status.code ≡ 0)
+      → StandsFor x (λ w. IfOk r (λ answer. IsSimReport (setup_of x.setup) w answer.text)) → IfOk r (λ answer. GivesWorld script answer.status.code answer.text)
+  reports x has (Err memory) code stands = tt
+  reports x has (Ok answer) code stands =
+      let makes = stands has.failed in
+      let ends : world_after setup script.events ≡ Ok makes.world =
+      sym same ∙ sym (ap (λ (s : Setup). world_after s x.events) has.setup ∙ ap (world_after setup) has.events) ∙ makes.is in
+      let report : IsSimReport setup makes.world answer.text = subst (λ (s : Setup). IsSimReport s makes.world answer.text) has.setup makes.holds in
+      subst (λ (ran : Ran). MatchResult ran (λ w. (answer.status.code ≡ 0) × IsSimReport setup w answer.text)
+          (λ limit. (answer.status.code ≡ 4) × (answer.text ≡ limit_line (limit_name limit) (limit_of limit)))) (sym ends) (code, report)
+
+  -- or the limit that they pass
+  pub stops : (name : LimitName) (limit : ℕ) → IsCause (world_after setup events) (world.Limit name limit) → (r : Result Answer Memory) → IfOk r (λ answer. answer.status.code ≡ 4)
+      → IfOk r (λ answer. answer.text ≡ limit_line (limit_name name) limit) → IfOk r (λ answer. GivesWorld script answer.status.code answer.text)
+  stops name limit cause (Err memory) code text = tt
+  stops name limit cause (Ok answer) code text =
+      let line : answer.text ≡ limit_line (limit_name name) (limit_of name) = text ∙ ap (limit_line (limit_name name)) cause.1 in
+      subst (λ (ran : Ran). MatchResult ran (λ w. (answer.status.code ≡ 0) × IsSimReport setup w answer.text)
+          (λ limit. (answer.status.code ≡ 4) × (answer.text ≡ limit_line (limit_name limit) (limit_of limit)))) (sym (sym same ∙ cause.0)) (code, line)
+
+-- both are answers
+pub answers_well : (r : Result Answer Memory) → IfOk r (λ answer. answer.status.code ≡ 0) → IfOk r (λ answer. IsAnswered answer.status.code)
+answers_well (Ok answer) code = inl code
+answers_well (Err memory) code = tt
+
+pub answers_limit : (r : Result Answer Memory) → IfOk r (λ answer. answer.status.code ≡ 4) → IfOk r (λ answer. IsAnswered answer.status.code)
+answers_limit (Ok answer) code = inr (inr (inr code))
+answers_limit (Err memory) code = tt
