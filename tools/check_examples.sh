@@ -1,13 +1,15 @@
 #!/usr/bin/env bash
-# Runs the examples and compares what is printed. A script examples/NAME.rolis ends with status 0 by `serial` and by
-# `steps`, and NAME.COMMAND.out beside it is what the command prints. A script of examples/faults/ prints by both the
-# line of the file .out beside it, with the status of a fault or of a limit. Words that are no command print
+# Runs the examples and compares what is printed. A script examples/NAME.rolis ends with status 0 by `serial`, by
+# `steps` and by `sim`, and NAME.COMMAND.out beside it is what the command prints; a script of examples/runs/ by `sim`
+# alone. A script of examples/faults/ prints by all three the line of the file .out beside it, with the status of a fault
+# or of a limit. Two scripts that are written here pass the limits of a run by `sim`. Words that are no command print
 # examples/usage.out. A line for each difference; status 1 where there is one.
 set -u
 top=$(cd "$(dirname "$0")/.." && pwd)
 binary=$top/crates/rl_cli/out/rl_cli
-told=$(mktemp)
-trap 'rm -f "$told"' EXIT
+work=$(mktemp -d)
+told=$work/told
+trap 'rm -rf "$work"' EXIT
 right=0 wrong=0
 
 if [ ! -x "$binary" ]; then
@@ -37,19 +39,46 @@ check() {
 }
 
 for script in "$top"/examples/*.rolis; do
-  for command in serial steps; do
+  for command in serial steps sim; do
     check 0 "${script%.rolis}.$command.out" "$script" "$command"
   done
+done
+
+for script in "$top"/examples/runs/*.rolis; do
+  check 0 "${script%.rolis}.sim.out" "$script" sim
 done
 
 for script in "$top"/examples/faults/*.rolis; do
   out=${script%.rolis}.out
   wanted=3
   [ "$(cut -d ' ' -f 1 "$out")" = limit ] && wanted=4
-  for command in serial steps; do
+  for command in serial steps sim; do
     check "$wanted" "$out" "$script" "$command"
   done
 done
+
+# One batch more than a stream has slots: a mark, and an item for each of as many requests.
+awk 'BEGIN {
+  print "rolis 1"
+  for (i = 0; i < 4096; i++) print "txn 1\nend"
+  print "events\nelect 1\nall\nall\nall\nall\nstep 1 1 4096"
+}' >"$work/slots"
+echo "limit slots 4096" >"$work/slots.out"
+check 4 "$work/slots.out" "$work/slots" sim
+
+# More bytes than all messages may have: one of two nodes is lost, and the other sends 40 batches of 64 rows again and again.
+awk 'BEGIN {
+  print "rolis 1\nnodes 2\ntable t 64 4"
+  for (i = 0; i < 40; i++) {
+    print "txn 1"
+    for (key = 0; key < 64; key++) print "put t " key " 0 0 0 0"
+    print "end"
+  }
+  print "events\nelect 1\nall\nall\nall\nall\nlose 2\nstep 1 1 40000"
+  for (i = 0; i < 3000; i++) print "tick 1"
+}' >"$work/bytes"
+echo "limit bytes 268435456" >"$work/bytes.out"
+check 4 "$work/bytes.out" "$work/bytes" sim
 
 usage=$top/examples/usage.out
 script=$top/examples/two_transfers.rolis
