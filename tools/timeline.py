@@ -1,12 +1,12 @@
 #!/usr/bin/env python3
 """Draws the run of a script on nodes in time, as one SVG.
 
-usage: timeline.py SCRIPT [--program PATH] > run.svg
+usage: timeline.py SCRIPT [--program PATH | --simulate] > run.svg
 
 Events go from left to right. For each node: up, down or lost, its role and epoch; elections, openings, refused attempts
 and denied messages; for each of its streams how many batches it keeps and how many of them it knows to be chosen; and
 its watermark. Below: how many transactions were released. A front of a script's events is a script too, so all of it is
-read from reports: simulate.py beside this file, or a program with the command `sim`, runs once for each event.
+read from reports: the program's `sim` runs once for each event, or with --simulate simulate.py beside this file.
 """
 import argparse
 import concurrent.futures
@@ -15,7 +15,9 @@ import os
 import subprocess
 import sys
 
-SIMULATE = os.path.join(os.path.dirname(os.path.abspath(__file__)), "simulate.py")
+TOOLS = os.path.dirname(os.path.abspath(__file__))
+ROLIS = os.path.join(os.path.dirname(TOOLS), "rolis")
+BINARY = os.path.join(os.path.dirname(TOOLS), "crates", "rl_cli", "out", "rl_cli")
 LEFT, TOP_SPACE, COLUMN = 150, 120, 34
 HEAD, LANE, GAP = 30, 18, 20
 COLORS = {"follower": "#c9d3df", "candidate": "#f2c14e", "opening": "#8ec9e8", "open": "#2f7fb8"}
@@ -88,6 +90,16 @@ class Report:
                 self.nodes[-1].streams.append((words[5], words[7]))
             else:
                 self.nodes[-1].rows.append(line)
+
+
+def command_of(args):
+    """What prints the report of a script. The program of this repository is run once by its launcher, which builds it."""
+    if args.simulate:
+        return [sys.executable, os.path.join(TOOLS, "simulate.py")]
+    if args.program:
+        return [args.program, "sim"]
+    subprocess.run([ROLIS, "sim"], input=b"rolis 1\n", stdout=subprocess.DEVNULL, check=True)
+    return [BINARY, "sim"]
 
 
 def run(command, text):
@@ -267,9 +279,11 @@ def draw(name, events, reports, why):
 def main():
     ask = argparse.ArgumentParser(description=__doc__, formatter_class=argparse.RawDescriptionHelpFormatter)
     ask.add_argument("script")
-    ask.add_argument("--program", help="a program with the command `sim`; otherwise simulate.py runs")
+    which = ask.add_mutually_exclusive_group()
+    which.add_argument("--program", help="another program with the command `sim`")
+    which.add_argument("--simulate", action="store_true", help="simulate.py, the second reading in plain Python")
     args = ask.parse_args()
-    command = [args.program, "sim"] if args.program else [sys.executable, SIMULATE]
+    command = command_of(args)
     with open(args.script) as file:
         head, events = split(file.read())
     reports, why = runs(command, head, events)
