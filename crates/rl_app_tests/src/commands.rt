@@ -1,6 +1,7 @@
 use rl_app::answer::Status;
 use rl_app::command::rolis;
 use rl_app::serial::serial;
+use rl_app::sim::sim;
 use rl_app::steps::steps;
 use rl_base::list::{Bytes, Fails};
 use rl_base::memory::Memory;
@@ -63,6 +64,21 @@ fn steps_reports(rt: HostRuntime) -> Result<(), Fail> {
         &sink,
         0,
         "rolis steps\nitems 0\ntables\nrow t 1 9\n",
+    );
+    Ok(())
+}
+
+#[test]
+fn sim_reports(rt: HostRuntime) -> Result<(), Fail> {
+    let mut source = source_of(rt.alloc(), b"rolis 1\ntable a 1 1\nevents\ndlv 1", 0)?;
+    let mut sink = sink_with(rt.alloc(), 0)?;
+    let status = sim(rt.alloc(), &mut source, &mut sink);
+    ended(
+        &rt,
+        status,
+        &sink,
+        0,
+        "rolis sim\nnomessage 1\nitems 0\nnode 1 up promised 0 follower watermark 0 0 at\nstream 1 ballot 0 len 0 known 0\n",
     );
     Ok(())
 }
