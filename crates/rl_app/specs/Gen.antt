@@ -6,10 +6,13 @@ use Rattle.std.specs.Str.{bytes_eq}
 use Rattle.std.specs.String.{string_bytes}
 use Rattle.rl_script.specs.LimitNames.{limit_name}
 use Rattle.rl_script.specs.Printed.{printed}
+use Rattle.rl_script.specs.declared.script.Script.{Script}
 use Rattle.rl_text.specs.Numbers.{number_of}
 use Rattle.rl_gen.specs.Generated.{passed_limit, generated}
 use Rattle.rl_app.specs.declared.generator.Sizes.{Sizes}
 use Rattle.rl_app.specs.Serve.{limit_line}
+use Rattle.rl_app.specs.Sim.{AnswersWorld}
+use Rattle.rl_app.specs.Summary.{IsSummary}
 
 -- the number from low to high that a word is, if it is one
 abbrev pub number_from : (low high : ℕ) → List ℕ → Option ℕ
@@ -34,8 +37,20 @@ pub record SomeEach (sizes : Sizes) : Type 0 where
   pub workers : 1 ≤ sizes.workers
   pub requests : 1 ≤ sizes.requests
 
--- the answer where a script of these sizes is to be generated: the first limit that is passed, or else the script's printed form
-abbrev pub GivesScript : Sizes → ℕ → List ℕ → Type 0
-GivesScript sizes status text = MatchOption (passed_limit sizes.nodes sizes.workers sizes.requests)
-    ((status ≡ 0) × (text ≡ printed (generated sizes.seed sizes.nodes sizes.workers sizes.requests)))
+-- the answer where a script of these sizes is to be generated: the first limit that is passed, or else what A answers to the script
+abbrev pub AnswersGenerated : (Script → ℕ → List ℕ → Type 0) → Sizes → ℕ → List ℕ → Type 0
+AnswersGenerated A sizes status text = MatchOption (passed_limit sizes.nodes sizes.workers sizes.requests)
+    (A (generated sizes.seed sizes.nodes sizes.workers sizes.requests) status text)
     (λ limit. (status ≡ 4) × (text ≡ limit_line (limit_name limit.0) limit.1))
+
+-- the script's printed form
+abbrev pub IsPrinted : Script → ℕ → List ℕ → Type 0
+IsPrinted script status text = (status ≡ 0) × (text ≡ printed script)
+
+-- the answer where a script is generated and printed
+abbrev pub GivesScript : Sizes → ℕ → List ℕ → Type 0
+GivesScript = AnswersGenerated IsPrinted
+
+-- the answer where a script is generated and run: the summary of the world that its events make, which is safe, or the limit that they pass
+abbrev pub GivesRun : Sizes → ℕ → List ℕ → Type 0
+GivesRun sizes = AnswersGenerated (AnswersWorld (IsSummary sizes.requests)) sizes

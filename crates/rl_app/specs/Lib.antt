@@ -1,6 +1,7 @@
 pub mod Answers
 pub mod Command
 pub mod Gen
+pub mod Generating
 pub mod Reports
 pub mod Running
 pub mod Runs
@@ -9,3 +10,4 @@ pub mod Serve
 pub mod Sim
 pub mod Simulating
 pub mod Steps
+pub mod Summary

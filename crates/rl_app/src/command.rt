@@ -4,15 +4,15 @@ ghost use Rattle.std.specs.Prelude.{◌≡◌, ◌⊎◌, ℕ, List, Some, None,
 ghost use Rattle.rl_app.specs.declared.command.Form.{Form};
 ghost use Rattle.rl_app.specs.Answers.{AnswersScript, Reports};
 ghost use Rattle.rl_app.specs.declared.generator.Sizes.{Sizes};
-ghost use Rattle.rl_app.specs.Command.{form_of, plain_form, usage_line};
-ghost use Rattle.rl_app.specs.Gen.{GivesScript, SomeEach};
+ghost use Rattle.rl_app.specs.Command.{form_of, gen_form, plain_form, usage_line};
+ghost use Rattle.rl_app.specs.Gen.{GivesRun, GivesScript, SomeEach};
 ghost use Rattle.rl_app.specs.Serial.{IsReport};
 ghost use Rattle.rl_app.specs.Serve.{Delivers, Serves, Writes, side};
 ghost use Rattle.rl_app.specs.Sim.{GivesWorld};
 ghost use Rattle.rl_app.specs.Steps.{IsStepsReport};
 
 use crate::answer::{Status, deliver};
-use crate::generator::{Sizes, gen_script, gen_sizes};
+use crate::generator::{Sizes, gen_run, gen_script, gen_sizes};
 use crate::serial::serial;
 use crate::sim::sim;
 use crate::steps::steps;
@@ -33,6 +33,8 @@ pub enum Form {
     Sim,
     /// `gen script`, with what is generated.
     GenScript(Sizes),
+    /// `gen run`, with what is generated.
+    GenRun(Sizes),
 }
 
 /// Does all that the program does. The one word `serial`, `steps` or `sim` is the command of this name, and
@@ -69,6 +71,8 @@ pub fn rolis<S: Source, K: Sink>(
         result.code }
     ensures gen_script { (sizes : Sizes) → form_of words.now ≡ Some (Form.GenScript sizes) → (source.new ≡ source.old)
         × Writes (GivesScript sizes) (side K.held K.faults sink.old sink.new) result.code }
+    ensures gen_run { (sizes : Sizes) → form_of words.now ≡ Some (Form.GenRun sizes) → (source.new ≡ source.old)
+        × Writes (GivesRun sizes) (side K.held K.faults sink.old sink.new) result.code }
     ensures usage { form_of words.now ≡ None → (source.new ≡ source.old)
         × Delivers (side K.held K.faults sink.old sink.new) 2 usage_line result.code }
 {
@@ -77,6 +81,7 @@ pub fn rolis<S: Source, K: Sink>(
         Some(Form::Steps) => steps(alloc, source, sink),
         Some(Form::Sim) => sim(alloc, source, sink),
         Some(Form::GenScript(sizes)) => gen_script(alloc, sizes, sink),
+        Some(Form::GenRun(sizes)) => gen_run(alloc, sizes, sink),
         None => deliver(sink, Status { code: 2 }, USAGE.as_bytes()),
     }
 }
@@ -84,11 +89,24 @@ pub fn rolis<S: Source, K: Sink>(
 /// The form that some words have, if they have one.
 fn form_of(words: &[String]) -> Option<Form>
     ensures form { result ≡ form_of words.now }
-    ensures some { (sizes : Sizes) → result ≡ Some (Form.GenScript sizes) → SomeEach sizes }
+    ensures script { (sizes : Sizes) → result ≡ Some (Form.GenScript sizes) → SomeEach sizes }
+    ensures run { (sizes : Sizes) → result ≡ Some (Form.GenRun sizes) → SomeEach sizes }
 {
     match words {
         [word] => plain_form(word),
-        _ => gen_sizes("script", words).map(Form::GenScript),
+        _ => gen_form(words),
+    }
+}
+
+/// The form of the words of `gen`.
+fn gen_form(words: &[String]) -> Option<Form>
+    ensures form { result ≡ gen_form words.now }
+    ensures script { (sizes : Sizes) → result ≡ Some (Form.GenScript sizes) → SomeEach sizes }
+    ensures run { (sizes : Sizes) → result ≡ Some (Form.GenRun sizes) → SomeEach sizes }
+{
+    match gen_sizes("script", words) {
+        Some(sizes) => Some(Form::GenScript(sizes)),
+        None => gen_sizes("run", words).map(Form::GenRun),
     }
 }
 

@@ -1,20 +1,30 @@
-//! The command `gen`: a generated script.
+//! The command `gen`: a generated script, printed or run.
 
-ghost use Rattle.std.specs.Prelude.{◌≡◌, ◌≤◌, ◌-◌, ◌^◌, IfOk, IfSome, MatchOption, codes, min};
+ghost use Rattle.std.specs.Prelude.{◌≡◌, ◌≤◌, ◌-◌, ◌^◌, None, Some, Err, IfOk, IfSome, MatchOption, Result, codes, min};
+ghost use Rattle.rl_base.specs.declared.limit.LimitName.{LimitName};
+ghost use Rattle.rl_gen.specs.Generated.{generated, passed_limit};
+ghost use Rattle.rl_gen.specs.declared.generate.GenError.{GenError};
 ghost use Rattle.rl_script.specs.Fits.{ScriptFits};
 ghost use Rattle.rl_script.specs.Printed.{printed};
+ghost use Rattle.rl_script.specs.declared.script.Script.{Script};
 ghost use Rattle.rl_app.specs.Command.{usage_line};
-ghost use Rattle.rl_app.specs.Gen.{GivesScript, SomeEach, gen_sizes, number_from, sizes_of};
+ghost use Rattle.rl_app.specs.Gen.{AnswersGenerated, GivesRun, GivesScript, IsPrinted, SomeEach, gen_sizes, number_from, sizes_of};
+ghost use Rattle.rl_app.specs.Generating.{IsGenerated};
 ghost use Rattle.rl_app.specs.Serve.{Delivers, Writes, side};
+ghost use Rattle.rl_app.specs.Sim.{AnswersWorld};
+ghost use Rattle.rl_app.specs.Summary.{IsSummary};
 
 use crate::answer::{Answer, Status, deliver, passed_answer, write_answer};
 use crate::command::USAGE;
+use crate::sim::world_of;
+use crate::summary::summary;
 use rl_base::memory::Memory;
 use rl_gen::generate::{GenError, generate};
 use rl_io::sink::Sink;
 use rl_script::printed::print;
 use rl_script::script::Script;
 use rl_text::number::number_of;
+use rl_world::world_error::WorldError;
 use std::alloc::Global;
 
 /// The seed of a generated script, and how many nodes, workers and requests it has.
@@ -26,19 +36,25 @@ pub struct Sizes {
     pub requests: u64,
 }
 
-/// Writes the printed form of a generated script: the words are `gen script SEED NODES WORKERS REQUESTS`.
+/// Writes the printed form of a generated script, or the summary of its run: the words are `gen script`
+/// or `gen run`, and then `SEED NODES WORKERS REQUESTS`.
 ///
-/// Status 0 with the script; 2 where the words are others, or a number is out of its range: a seed
-/// above 4294967295, or a 0 behind it; 4 for more than 7 nodes, 16 workers or 2,000 requests; 6 where
-/// a write failed, with a prefix of the text written; 7 where there was no memory. At 2, 4 and 7 the
-/// one line of the status is written.
+/// Status 0 with the script or the summary; 2 where the words are others, or a number is out of its
+/// range: a seed above 4294967295, or a 0 behind it; 4 for more than 7 nodes, 16 workers or 2,000
+/// requests, or where the run passes a limit; 6 where a write failed, with a prefix of the text written;
+/// 7 where there was no memory. At 2, 4 and 7 the one line of the status is written.
 pub fn gen_command<K: Sink>(alloc: Global, words: &[String], sink: &mut K) -> Status
-    ensures { MatchOption (gen_sizes (codes "script") words.now)
-        (Delivers (side K.held K.faults sink.old sink.new) 2 usage_line result.code)
-        (λ sizes. Writes (GivesScript sizes) (side K.held K.faults sink.old sink.new) result.code) }
+    ensures { let sides = side K.held K.faults sink.old sink.new in MatchOption (gen_sizes (codes "script") words.now)
+        (MatchOption (gen_sizes (codes "run") words.now)
+            (Delivers sides 2 usage_line result.code)
+            (λ sizes. Writes (GivesRun sizes) sides result.code))
+        (λ sizes. Writes (GivesScript sizes) sides result.code) }
 {
-    match gen_sizes("script", words) {
-        Some(sizes) => gen_script(alloc, sizes, sink),
+    if let Some(sizes) = gen_sizes("script", words) {
+        return gen_script(alloc, sizes, sink);
+    }
+    match gen_sizes("run", words) {
+        Some(sizes) => gen_run(alloc, sizes, sink),
         None => deliver(sink, Status { code: 2 }, USAGE.as_bytes()),
     }
 }
@@ -52,28 +68,72 @@ pub fn gen_script<K: Sink>(alloc: Global, sizes: Sizes, sink: &mut K) -> Status
     write_answer(sink, answer)
 }
 
-/// The answer where a script of some sizes is to be generated.
+/// Writes the summary of the run of the script of some sizes, or the limit that they or its events pass.
+pub fn gen_run<K: Sink>(alloc: Global, sizes: Sizes, sink: &mut K) -> Status
+    requires { SomeEach sizes }
+    ensures { Writes (GivesRun sizes) (side K.held K.faults sink.old sink.new) result.code }
+{
+    let answer = run_answer(alloc, sizes);
+    write_answer(sink, answer)
+}
+
+/// The answer where a script of some sizes is to be generated and printed.
 fn script_answer(alloc: Global, sizes: Sizes) -> Result<Answer, Memory>
     requires { SomeEach sizes }
     ensures { IfOk result (λ answer. GivesScript sizes answer.status.code answer.text) }
 {
-    let nodes = at_most(sizes.nodes);
-    let workers = at_most(sizes.workers);
-    let requests = at_most(sizes.requests);
-    match generate(alloc, sizes.seed, nodes, workers, requests) {
+    match script_of(alloc, sizes) {
         Ok(script) => printed_script(alloc, &script),
         Err(GenError::GenLimit { name, limit }) => passed_answer(alloc, name, limit),
         Err(GenError::Memory) => Err(Memory),
     }
 }
 
+/// The answer where a script of some sizes is to be generated and run.
+fn run_answer(alloc: Global, sizes: Sizes) -> Result<Answer, Memory>
+    requires { SomeEach sizes }
+    ensures { IfOk result (λ answer. GivesRun sizes answer.status.code answer.text) }
+{
+    match script_of(alloc, sizes) {
+        Ok(script) => run_summary(alloc, at_most(sizes.requests), script),
+        Err(GenError::GenLimit { name, limit }) => passed_answer(alloc, name, limit),
+        Err(GenError::Memory) => Err(Memory),
+    }
+}
+
+/// The script of some sizes.
+fn script_of(alloc: Global, sizes: Sizes) -> Result<Script, GenError>
+    requires { SomeEach sizes }
+    ensures generated { IsGenerated sizes result }
+    ensures fits { IfOk result ScriptFits }
+{
+    let nodes = at_most(sizes.nodes);
+    let workers = at_most(sizes.workers);
+    let requests = at_most(sizes.requests);
+    generate(alloc, sizes.seed, nodes, workers, requests)
+}
+
 /// The answer with the printed form of a script.
 fn printed_script(alloc: Global, script: &Script) -> Result<Answer, Memory>
     requires { ScriptFits script.now }
-    ensures status { IfOk result (λ answer. answer.status.code ≡ 0) }
-    ensures text { IfOk result (λ answer. answer.text ≡ printed script.now) }
+    ensures { IfOk result (λ answer. IsPrinted script.now answer.status.code answer.text) }
 {
     Ok(Answer::printed(print(alloc, script)?))
+}
+
+/// The answer with the summary of the run of a script with so many requests.
+fn run_summary(alloc: Global, requests: u32, script: Script) -> Result<Answer, Memory>
+    requires { ScriptFits script }
+    ensures { IfOk result (λ answer. AnswersWorld (IsSummary requests) script answer.status.code answer.text) }
+{
+    match world_of(alloc, script) {
+        Ok(world) => {
+            let report = world.report(alloc)?;
+            Ok(Answer::printed(summary(alloc, requests, &report)?))
+        }
+        Err(WorldError::Limit { name, limit }) => passed_answer(alloc, name, limit),
+        Err(WorldError::Memory) => Err(Memory),
+    }
 }
 
 /// A number, or the greatest one of 32 bits.

@@ -11,3 +11,4 @@ pub mod serial;
 mod serve;
 pub mod sim;
 pub mod steps;
+mod summary;
