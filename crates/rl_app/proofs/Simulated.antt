@@ -24,7 +24,7 @@ use Rattle.rl_world.specs.declared.world_error.WorldError.TheVariants as world
 use Rattle.rl_app.specs.declared.answer.Answer.{Answer}
 use Rattle.rl_app.specs.Serve.{IsAnswered, limit_line}
 use Rattle.rl_app.specs.Sim.{GivesWorld, IsSimReport}
-use Rattle.rl_app.specs.Simulating.{CanBeGiven, HasTaken}
+use Rattle.rl_app.specs.Simulating.{CanBeGiven, HasTaken, StandsForRun}
 
 -- ---- events ----
 
@@ -35,7 +35,7 @@ passed go_on setup events more (world.Limit name limit) cause =
 passed go_on setup events more world.Memory cause = tt
 
 module _ (setup : Setup) (events : List Event) (can : CanBeGiven setup events) (i : ℕ) (e : Event) (within : i < length events) (is : e ≡ get_or events i e)
-  (x : Taken) (has : HasTaken setup (take i events) x) where
+    (x : Taken) (has : HasTaken setup (take i events) x) where
   at : (P : Event → Type 0) → All P events → P e
   at P all = subst P (sym is) (all i e within)
 
@@ -83,33 +83,42 @@ module _ (setup : Setup) (events : List Event) (can : CanBeGiven setup events) (
 pub new_has : (script : Script) (x : Taken) → IsNew script x → HasTaken (setup_of x.setup) [] x
 new_has script x new = record { setup = refl; events = new.events; counted = new.counted; failed = new.failed }
 
-module _ (script : Script) (events : List Event) (runs : ExpandedRunsAreRuns) (are : events ≡ expanded_events (scripts.setup_of script) script.events) where
-  setup : Setup
-  setup = scripts.setup_of script
+same : (script : Script) (events : List Event) → ExpandedRunsAreRuns → events ≡ expanded_events (scripts.setup_of script) script.events
+    → world_after (scripts.setup_of script) events ≡ world_after (scripts.setup_of script) script.events
+same script events runs are = ap (world_after (scripts.setup_of script)) are ∙ runs (scripts.setup_of script) script.events
 
-  same : world_after setup events ≡ world_after setup script.events
-  same = ap (world_after setup) are ∙ runs setup script.events
+-- an answer by what the events lead to
+abbrev AnswerBy : Script → (status : ℕ) → (text : List ℕ) → Ran → Type 0
+AnswerBy script status text ran = MatchResult ran
+    (λ w. (status ≡ 0) × IsSimReport (scripts.setup_of script) w text)
+    (λ limit. (status ≡ 4) × (text ≡ limit_line (limit_name limit) (limit_of limit)))
 
-  -- the report of the world that the events make
-  pub reports : (x : Taken) → HasTaken setup events x → (r : Result Answer Memory) → IfOk r (λ answer. answer.status.code ≡ 0)
-      → StandsFor x (λ w. IfOk r (λ answer. IsSimReport (setup_of x.setup) w answer.text)) → IfOk r (λ answer. GivesWorld script answer.status.code answer.text)
-  reports x has (Err memory) code stands = tt
-  reports x has (Ok answer) code stands =
-      let makes = stands has.failed in
-      let ends : world_after setup script.events ≡ Ok makes.world =
-      sym same ∙ sym (ap (λ (s : Setup). world_after s x.events) has.setup ∙ ap (world_after setup) has.events) ∙ makes.is in
-      let report : IsSimReport setup makes.world answer.text = subst (λ (s : Setup). IsSimReport s makes.world answer.text) has.setup makes.holds in
-      subst (λ (ran : Ran). MatchResult ran (λ w. (answer.status.code ≡ 0) × IsSimReport setup w answer.text)
-          (λ limit. (answer.status.code ≡ 4) × (answer.text ≡ limit_line (limit_name limit) (limit_of limit)))) (sym ends) (code, report)
+-- what a new world has taken is the run of its script
+pub stands_for_run : (script : Script) (events : List Event) (x : Taken) → ExpandedRunsAreRuns → events ≡ expanded_events (scripts.setup_of script) script.events
+    → HasTaken (scripts.setup_of script) events x → StandsForRun script x
+stands_for_run script events x runs are has = record {
+  setup = has.setup;
+  same = ap (λ (s : Setup). world_after s x.events) has.setup ∙ ap (world_after (scripts.setup_of script)) has.events ∙ same script events runs are;
+  failed = has.failed;
+}
 
-  -- or the limit that they pass
-  pub stops : (name : LimitName) (limit : ℕ) → IsCause (world_after setup events) (world.Limit name limit) → (r : Result Answer Memory) → IfOk r (λ answer. answer.status.code ≡ 4)
-      → IfOk r (λ answer. answer.text ≡ limit_line (limit_name name) limit) → IfOk r (λ answer. GivesWorld script answer.status.code answer.text)
-  stops name limit cause (Err memory) code text = tt
-  stops name limit cause (Ok answer) code text =
-      let line : answer.text ≡ limit_line (limit_name name) (limit_of name) = text ∙ ap (limit_line (limit_name name)) cause.1 in
-      subst (λ (ran : Ran). MatchResult ran (λ w. (answer.status.code ≡ 0) × IsSimReport setup w answer.text)
-          (λ limit. (answer.status.code ≡ 4) × (answer.text ≡ limit_line (limit_name limit) (limit_of limit)))) (sym (sym same ∙ cause.0)) (code, line)
+-- the answer with the report of a script's world
+pub reports : (script : Script) (x : Taken) → StandsForRun script x → (r : Result Answer Memory) → IfOk r (λ answer. answer.status.code ≡ 0)
+    → StandsFor x (λ w. IfOk r (λ answer. IsSimReport (setup_of x.setup) w answer.text)) → IfOk r (λ answer. GivesWorld script answer.status.code answer.text)
+reports script x run (Err memory) code stands = tt
+reports script x run (Ok answer) code stands =
+    let makes = stands run.failed in
+    let ends : world_after (scripts.setup_of script) script.events ≡ Ok makes.world = sym run.same ∙ makes.is in
+    let report = subst (λ (s : Setup). IsSimReport s makes.world answer.text) run.setup makes.holds in
+    subst (AnswerBy script answer.status.code answer.text) (sym ends) (code, report)
+
+-- or with the limit that its events pass
+pub stops : (script : Script) (name : LimitName) (limit : ℕ) → IsCause (world_after (scripts.setup_of script) script.events) (world.Limit name limit) → (r : Result Answer Memory)
+    → IfOk r (λ answer. answer.status.code ≡ 4) → IfOk r (λ answer. answer.text ≡ limit_line (limit_name name) limit) → IfOk r (λ answer. GivesWorld script answer.status.code answer.text)
+stops script name limit cause (Err memory) code text = tt
+stops script name limit cause (Ok answer) code text =
+    let line : answer.text ≡ limit_line (limit_name name) (limit_of name) = text ∙ ap (limit_line (limit_name name)) cause.1 in
+    subst (AnswerBy script answer.status.code answer.text) (sym cause.0) (code, line)
 
 -- both are answers
 pub answers_well : (r : Result Answer Memory) → IfOk r (λ answer. answer.status.code ≡ 0) → IfOk r (λ answer. IsAnswered answer.status.code)

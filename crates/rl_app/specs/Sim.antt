@@ -18,8 +18,12 @@ pub record IsSimReport (setup : Setup) (w : World) (text : List ℕ) : Type 0 wh
   pub printed : text ≡ printed (reported setup.program.tables (report_of setup w))
   pub safe : Safe setup w
 
--- the answer to a script: the report of the world that its events make of new nodes, or the limit that they pass
-abbrev pub GivesWorld : Script → ℕ → List ℕ → Type 0
-GivesWorld script status text = MatchResult (world_after (setup_of script) script.events)
-    (λ w. (status ≡ 0) × IsSimReport (setup_of script) w text)
+-- the answer to a script: a text of the world that its events make of new nodes, as R says, or the limit that they pass
+abbrev pub AnswersWorld : (Setup → World → List ℕ → Type 0) → Script → ℕ → List ℕ → Type 0
+AnswersWorld R script status text = MatchResult (world_after (setup_of script) script.events)
+    (λ w. (status ≡ 0) × R (setup_of script) w text)
     (λ limit. (status ≡ 4) × (text ≡ limit_line (limit_name limit) (limit_of limit)))
+
+-- the answer of `sim` to a script: the report of its world, or the limit that its events pass
+abbrev pub GivesWorld : Script → ℕ → List ℕ → Type 0
+GivesWorld = AnswersWorld IsSimReport

@@ -1,6 +1,6 @@
 //! The command `sim`: the events of a script, on all nodes.
 
-ghost use Rattle.std.specs.Prelude.{◌≡◌, ◌<◌, ◌-◌, ◌^◌, ◌⊎◌, ℕ, List, [], None, IfOk, MatchResult, length};
+ghost use Rattle.std.specs.Prelude.{◌≡◌, ◌<◌, ◌-◌, ◌^◌, ◌⊎◌, ℕ, List, [], None, IfOk, IfErr, MatchResult, length};
 ghost use Rattle.rl_nodes.specs.Events.{expanded_events, world_after};
 ghost use Rattle.rl_node.specs.SetupOf.{setup_of};
 ghost use Rattle.rl_script.specs.Fits.{ScriptFits};
@@ -9,7 +9,7 @@ ghost use Rattle.rl_world.specs.Worlds.{IsCause, StandsFor};
 ghost use Rattle.rl_app.specs.Answers.{AnswersScript};
 ghost use Rattle.rl_app.specs.Serve.{IsAnswered, Serves, side};
 ghost use Rattle.rl_app.specs.Sim.{GivesWorld, IsSimReport};
-ghost use Rattle.rl_app.specs.Simulating.{CanBeGiven, HasTaken};
+ghost use Rattle.rl_app.specs.Simulating.{CanBeGiven, HasTaken, StandsForRun};
 
 use crate::answer::{Answer, Status, passed_answer};
 use crate::input::read_script;
@@ -69,15 +69,25 @@ fn world_answer(alloc: Global, script: Script) -> Result<Answer, Memory>
     ensures gives { IfOk result (λ answer. GivesWorld script answer.status.code answer.text) }
     ensures answered { IfOk result (λ answer. IsAnswered answer.status.code) }
 {
+    match world_of(alloc, script) {
+        Ok(world) => report_answer(alloc, &world),
+        Err(WorldError::Limit { name, limit }) => passed_answer(alloc, name, limit),
+        Err(WorldError::Memory) => Err(Memory),
+    }
+}
+
+/// The world after the events of a script. `Limit` where they pass a limit; `Memory`.
+pub fn world_of(alloc: Global, script: Script) -> Result<World, WorldError>
+    requires { ScriptFits script }
+    ensures ok { IfOk result (StandsForRun script) }
+    ensures err { IfErr result (IsCause (world_after (scripts.setup_of script) script.events)) }
+{
     // For the proof alone: random events may be written out.
     expanded_runs_are_runs();
     let events = events_of(alloc, &script)?;
     let mut world = World::new(alloc, script)?;
-    match take_all(alloc, &mut world, &events) {
-        Ok(()) => report_answer(alloc, &world),
-        Err(WorldError::Limit { name, limit }) => passed_answer(alloc, name, limit),
-        Err(WorldError::Memory) => Err(Memory),
-    }
+    take_all(alloc, &mut world, &events)?;
+    Ok(world)
 }
 
 /// The events of a script, with those that its seed draws in the place of each random one.
