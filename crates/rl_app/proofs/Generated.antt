@@ -1,16 +1,18 @@
 -- Numbers that are cut to 32 bits pass the same limits, and where none is passed they are the same.
-use Rattle.std.proofs.Common.{◌≡◌, ℕ, ◌-◌, ◌^◌, ◌≤◌, min, List, Option, Some, None, IfSome, MatchOption, Result, Ok, Err, refl, ap, sym, ◌∙◌, subst, arith}
-use Rattle.std.specs.Prelude.{nat_lt}
+use Rattle.std.proofs.Common.{◌≡◌, ℕ, ◌-◌, ◌^◌, ◌≤◌, ◌⊎◌, inl, inr, min, List, Option, Some, None, IfSome, IfOk, IfErr, MatchOption, Result, Ok, Err, refl, ap, sym, ◌∙◌, subst, arith}
+use Rattle.std.specs.Prelude.{nat_lt, IsSomeAnd}
 use Rattle.std.proofs.lemmas.Bool.Decides.{nat_tests}
 use Rattle.rl_base.specs.declared.limit.LimitName.{LimitName}
+use Rattle.rl_base.specs.declared.memory.Memory.{Memory}
 use Rattle.rl_script.specs.LimitNames.{limit_name}
-use Rattle.rl_script.specs.Printed.{printed}
 use Rattle.rl_script.specs.declared.script.Script.{Script}
 use Rattle.rl_gen.specs.Generated.{passed_limit, generated}
 use Rattle.rl_gen.specs.declared.generate.GenError.{GenError}
-use Rattle.rl_gen.specs.declared.generate.GenError.TheVariants.{GenLimit}
+use Rattle.rl_gen.specs.declared.generate.GenError.TheVariants as error
+use Rattle.rl_app.specs.declared.answer.Answer.{Answer}
 use Rattle.rl_app.specs.declared.generator.Sizes.{Sizes}
-use Rattle.rl_app.specs.Gen.{GivesScript}
+use Rattle.rl_app.specs.Gen.{AnswersGenerated}
+use Rattle.rl_app.specs.Generating.{IsGenerated}
 use Rattle.rl_app.specs.Serve.{limit_line}
 
 same_test : (k n : ℕ) → k ≤ 2000 → nat_lt k (min n (2 ^ 32 - 1)) ≡ nat_lt k n
@@ -24,27 +26,54 @@ module _ (sizes : Sizes) (n w r : ℕ) (ns : n ≡ min sizes.nodes (2 ^ 32 - 1))
       let requests : nat_lt 2000 r ≡ nat_lt 2000 sizes.requests = ap (nat_lt 2000) rs ∙ same_test 2000 sizes.requests (omega arith) in
       rw (nodes, workers, requests) refl
 
-  by_limit : (status : ℕ) (text : List ℕ) (o : Option (LimitName × ℕ)) → passed_limit n w r ≡ o
-      → MatchOption o ((status ≡ 0) × (text ≡ printed (generated sizes.seed sizes.nodes sizes.workers sizes.requests))) (λ limit. (status ≡ 4) × (text ≡ limit_line (limit_name limit.0) limit.1))
-      → GivesScript sizes status text
-  by_limit status text o is given =
-      subst (λ (o : Option (LimitName × ℕ)). MatchOption o ((status ≡ 0) × (text ≡ printed (generated sizes.seed sizes.nodes sizes.workers sizes.requests))) (λ limit. (status ≡ 4) × (text ≡ limit_line (limit_name limit.0) limit.1)))
-      (sym is ∙ same_limit) given
-
   few : passed_limit n w r ≡ None → (n ≤ 7) × (w ≤ 16) × (r ≤ 2000)
   few none = (grind (arith, nat_tests), grind (arith, nat_tests), grind (arith, nat_tests))
 
-  -- the script
-  pub script_given : (status : ℕ) (text : List ℕ) (script : Script) → IfSome (passed_limit n w r) (λ l. ◌≡◌ {A = Result Script GenError} (Ok script) (Err (GenLimit l.0 l.1)))
-      → script ≡ generated sizes.seed n w r → status ≡ 0 → text ≡ printed script → GivesScript sizes status text
-  script_given status text script refused is code prints = go (passed_limit n w r) refl refused
+  same_script : passed_limit n w r ≡ None → generated sizes.seed n w r ≡ generated sizes.seed sizes.nodes sizes.workers sizes.requests
+  same_script none =
+      let small = few none in
+      let nodes : n ≡ sizes.nodes = omega (arith, ns, small.0) in
+      let workers : w ≡ sizes.workers = omega (arith, ws, small.1) in
+      let requests : r ≡ sizes.requests = omega (arith, rs, small.2) in
+      rw (nodes, workers, requests) refl
+
+  -- the cut numbers give the script of the sizes, or the limit that these pass
+  pub is_generated : (made : Result Script GenError) → IfOk made (λ script. script ≡ generated sizes.seed n w r)
+      → IfSome (passed_limit n w r) (λ limit. made ≡ Err (error.GenLimit limit.0 limit.1))
+      → IfErr made (λ e. (e ≡ error.Memory) ⊎ IsSomeAnd (passed_limit n w r) (λ limit. e ≡ error.GenLimit limit.0 limit.1))
+      → IsGenerated sizes made
+  is_generated made is refused why = go made (passed_limit n w r) refl is refused why
     where
-      go : (o : Option (LimitName × ℕ)) → passed_limit n w r ≡ o → IfSome o (λ l. ◌≡◌ {A = Result Script GenError} (Ok script) (Err (GenLimit l.0 l.1))) → GivesScript sizes status text
-      go None none h =
-          let small = few none in
-          let nodes : n ≡ sizes.nodes = omega (arith, ns, small.0) in
-          let workers : w ≡ sizes.workers = omega (arith, ws, small.1) in
-          let requests : r ≡ sizes.requests = omega (arith, rs, small.2) in
-          let same : generated sizes.seed n w r ≡ generated sizes.seed sizes.nodes sizes.workers sizes.requests = rw (nodes, workers, requests) refl in
-          by_limit status text None none (code, prints ∙ ap printed (is ∙ same))
-      go (Some l) is h = absurd (cc)
+      go : (made : Result Script GenError) (o : Option (LimitName × ℕ)) → passed_limit n w r ≡ o → IfOk made (λ script. script ≡ generated sizes.seed n w r)
+          → IfSome o (λ limit. made ≡ Err (error.GenLimit limit.0 limit.1))
+          → IfErr made (λ e. (e ≡ error.Memory) ⊎ IsSomeAnd o (λ limit. e ≡ error.GenLimit limit.0 limit.1))
+          → IsGenerated sizes made
+      go (Ok script) None none is refused why = (sym same_limit ∙ none, is ∙ same_script none)
+      go (Ok script) (Some limit) some is refused why = absurd (cc)
+      go (Err error.Memory) o passed is refused why = tt
+      go (Err (error.GenLimit name limit)) o passed is refused (inl memory) = absurd (cc)
+      go (Err (error.GenLimit name limit)) None none is refused (inr why) = absurd why
+      go (Err (error.GenLimit name limit)) (Some l) some is refused (inr why) =
+          sym same_limit ∙ some ∙ ap Some (sym (ap pair why))
+
+-- ---- answers ----
+
+-- what is answered to the script that was generated
+pub answers : (A : Script → ℕ → List ℕ → Type 0) (sizes : Sizes) (script : Script) → IsGenerated sizes (Ok script)
+    → (r : Result Answer Memory) → IfOk r (λ a. A script a.status.code a.text) → IfOk r (λ a. AnswersGenerated A sizes a.status.code a.text)
+answers A sizes script is (Err memory) given = tt
+answers A sizes script is (Ok a) given =
+    let due : Script = generated sizes.seed sizes.nodes sizes.workers sizes.requests in
+    let here : A due a.status.code a.text = subst (λ s. A s a.status.code a.text) is.1 given in
+    subst (λ (o : Option (LimitName × ℕ)). MatchOption o (A due a.status.code a.text) (λ limit. (a.status.code ≡ 4) × (a.text ≡ limit_line (limit_name limit.0) limit.1)))
+    (sym is.0) here
+
+-- or the limit that is passed
+pub passes : (A : Script → ℕ → List ℕ → Type 0) (sizes : Sizes) (name : LimitName) (limit : ℕ) → IsGenerated sizes (Err (error.GenLimit name limit))
+    → (r : Result Answer Memory) → IfOk r (λ a. a.status.code ≡ 4) → IfOk r (λ a. a.text ≡ limit_line (limit_name name) limit)
+    → IfOk r (λ a. AnswersGenerated A sizes a.status.code a.text)
+passes A sizes name limit is (Err memory) code text = tt
+passes A sizes name limit is (Ok a) code text =
+    let due : Script = generated sizes.seed sizes.nodes sizes.workers sizes.requests in
+    subst (λ (o : Option (LimitName × ℕ)). MatchOption o (A due a.status.code a.text) (λ limit. (a.status.code ≡ 4) × (a.text ≡ limit_line (limit_name limit.0) limit.1)))
+    (sym is) (code, text)

@@ -1,14 +1,11 @@
 //! The command `gen`: a generated script, printed or run.
 
-ghost use Rattle.std.specs.Prelude.{◌≡◌, ◌≤◌, ◌-◌, ◌^◌, None, Some, Err, IfOk, IfSome, MatchOption, Result, codes, min};
-ghost use Rattle.rl_base.specs.declared.limit.LimitName.{LimitName};
-ghost use Rattle.rl_gen.specs.Generated.{generated, passed_limit};
-ghost use Rattle.rl_gen.specs.declared.generate.GenError.{GenError};
+ghost use Rattle.std.specs.Prelude.{◌≡◌, ◌≤◌, ◌-◌, ◌^◌, None, IfOk, IfSome, MatchOption, codes, min};
+ghost use Rattle.rl_node.specs.SetupOf.{setup_of};
 ghost use Rattle.rl_script.specs.Fits.{ScriptFits};
-ghost use Rattle.rl_script.specs.Printed.{printed};
-ghost use Rattle.rl_script.specs.declared.script.Script.{Script};
+ghost use Rattle.rl_world.specs.Worlds.{StandsFor};
 ghost use Rattle.rl_app.specs.Command.{usage_line};
-ghost use Rattle.rl_app.specs.Gen.{AnswersGenerated, GivesRun, GivesScript, IsPrinted, SomeEach, gen_sizes, number_from, sizes_of};
+ghost use Rattle.rl_app.specs.Gen.{GivesRun, GivesScript, IsPrinted, SomeEach, gen_sizes, number_from, sizes_of};
 ghost use Rattle.rl_app.specs.Generating.{IsGenerated};
 ghost use Rattle.rl_app.specs.Serve.{Delivers, Writes, side};
 ghost use Rattle.rl_app.specs.Sim.{AnswersWorld};
@@ -24,6 +21,7 @@ use rl_io::sink::Sink;
 use rl_script::printed::print;
 use rl_script::script::Script;
 use rl_text::number::number_of;
+use rl_world::world::World;
 use rl_world::world_error::WorldError;
 use std::alloc::Global;
 
@@ -127,13 +125,21 @@ fn run_summary(alloc: Global, requests: u32, script: Script) -> Result<Answer, M
     ensures { IfOk result (λ answer. AnswersWorld (IsSummary requests) script answer.status.code answer.text) }
 {
     match world_of(alloc, script) {
-        Ok(world) => {
-            let report = world.report(alloc)?;
-            Ok(Answer::printed(summary(alloc, requests, &report)?))
-        }
+        Ok(world) => world_summary(alloc, requests, &world),
         Err(WorldError::Limit { name, limit }) => passed_answer(alloc, name, limit),
         Err(WorldError::Memory) => Err(Memory),
     }
+}
+
+/// The answer with the summary of a world that refused no event.
+fn world_summary(alloc: Global, requests: u32, world: &World) -> Result<Answer, Memory>
+    requires { world.now.failed ≡ None }
+    ensures status { IfOk result (λ answer. answer.status.code ≡ 0) }
+    ensures summary { let setup = setup_of world.now.setup in
+        StandsFor world.now (λ w. IfOk result (λ answer. IsSummary requests setup w answer.text)) }
+{
+    let report = world.report(alloc)?;
+    Ok(Answer::printed(summary(alloc, requests, &report)?))
 }
 
 /// A number, or the greatest one of 32 bits.
