@@ -3,6 +3,7 @@ use Rattle.std.proofs.Common.{◌≡◌, ℕ, ◌-◌, ◌^◌, ◌≤◌, ◌�
 use Rattle.std.specs.Prelude.{nat_lt, IsSomeAnd}
 use Rattle.std.proofs.lemmas.Bool.Decides.{nat_tests}
 use Rattle.rl_base.specs.declared.limit.LimitName.{LimitName}
+use Rattle.rl_base.specs.declared.limit.LimitName.TheVariants.{Nodes}
 use Rattle.rl_base.specs.declared.memory.Memory.{Memory}
 use Rattle.rl_script.specs.LimitNames.{limit_name}
 use Rattle.rl_script.specs.declared.script.Script.{Script}
@@ -11,12 +12,19 @@ use Rattle.rl_gen.specs.declared.generate.GenError.{GenError}
 use Rattle.rl_gen.specs.declared.generate.GenError.TheVariants as error
 use Rattle.rl_app.specs.declared.answer.Answer.{Answer}
 use Rattle.rl_app.specs.declared.generator.Sizes.{Sizes}
-use Rattle.rl_app.specs.Gen.{AnswersGenerated}
-use Rattle.rl_app.specs.Generating.{IsGenerated}
+use Rattle.rl_app.specs.Gen.{AnswersGenerated, GivesRun}
+use Rattle.rl_app.specs.Generating.{IsAnsweredBy, IsGenerated}
 use Rattle.rl_app.specs.Serve.{limit_line}
+use Rattle.rl_app.specs.Sim.{AnswersWorld}
+use Rattle.rl_app.specs.Summary.{IsSummary}
 
 same_test : (k n : ℕ) → k ≤ 2000 → nat_lt k (min n (2 ^ 32 - 1)) ≡ nat_lt k n
 same_test k n small = grind (arith, nat_tests)
+
+-- the limit that an error names
+abbrev limit_in : GenError → LimitName × ℕ
+limit_in (error.GenLimit name limit) = (name, limit)
+limit_in error.Memory = (Nodes, 0)
 
 module _ (sizes : Sizes) (n w r : ℕ) (ns : n ≡ min sizes.nodes (2 ^ 32 - 1)) (ws : w ≡ min sizes.workers (2 ^ 32 - 1)) (rs : r ≡ min sizes.requests (2 ^ 32 - 1)) where
   same_limit : passed_limit n w r ≡ passed_limit sizes.nodes sizes.workers sizes.requests
@@ -54,7 +62,10 @@ module _ (sizes : Sizes) (n w r : ℕ) (ns : n ≡ min sizes.nodes (2 ^ 32 - 1))
       go (Err (error.GenLimit name limit)) o passed is refused (inl memory) = absurd (cc)
       go (Err (error.GenLimit name limit)) None none is refused (inr why) = absurd why
       go (Err (error.GenLimit name limit)) (Some l) some is refused (inr why) =
-          sym same_limit ∙ some ∙ ap Some (sym (ap pair why))
+          sym same_limit ∙ some ∙ ap (λ (e : GenError). Some (limit_in e)) (sym why)
+
+few_requests : (sizes : Sizes) → passed_limit sizes.nodes sizes.workers sizes.requests ≡ None → sizes.requests ≤ 2000
+few_requests sizes none = grind (arith, nat_tests)
 
 -- ---- answers ----
 
@@ -68,12 +79,21 @@ answers A sizes script is (Ok a) given =
     subst (λ (o : Option (LimitName × ℕ)). MatchOption o (A due a.status.code a.text) (λ limit. (a.status.code ≡ 4) × (a.text ≡ limit_line (limit_name limit.0) limit.1)))
     (sym is.0) here
 
--- or the limit that is passed
-pub passes : (A : Script → ℕ → List ℕ → Type 0) (sizes : Sizes) (name : LimitName) (limit : ℕ) → IsGenerated sizes (Err (error.GenLimit name limit))
-    → (r : Result Answer Memory) → IfOk r (λ a. a.status.code ≡ 4) → IfOk r (λ a. a.text ≡ limit_line (limit_name name) limit)
-    → IfOk r (λ a. AnswersGenerated A sizes a.status.code a.text)
-passes A sizes name limit is (Err memory) code text = tt
-passes A sizes name limit is (Ok a) code text =
+-- or where none was
+pub passes : (A : Script → ℕ → List ℕ → Type 0) (sizes : Sizes) (refused : GenError) → IsGenerated sizes (Err refused)
+    → (r : Result Answer Memory) → IsAnsweredBy refused r → IfOk r (λ a. AnswersGenerated A sizes a.status.code a.text)
+passes A sizes refused is (Err memory) given = tt
+passes A sizes error.Memory is (Ok a) given = absurd given
+passes A sizes (error.GenLimit name limit) is (Ok a) given =
     let due : Script = generated sizes.seed sizes.nodes sizes.workers sizes.requests in
     subst (λ (o : Option (LimitName × ℕ)). MatchOption o (A due a.status.code a.text) (λ limit. (a.status.code ≡ 4) × (a.text ≡ limit_line (limit_name limit.0) limit.1)))
-    (sym is) (code, text)
+    (sym is) given
+
+-- what is answered to the run of the script that was generated, where the number of its requests was cut to 32 bits
+pub run_answers : (sizes : Sizes) (script : Script) → IsGenerated sizes (Ok script) → (requests : ℕ) → requests ≡ min sizes.requests (2 ^ 32 - 1)
+    → (r : Result Answer Memory) → IfOk r (λ a. AnswersWorld (IsSummary requests) script a.status.code a.text) → IfOk r (λ a. GivesRun sizes a.status.code a.text)
+run_answers sizes script is requests cut r given =
+    let few : sizes.requests ≤ 2000 = few_requests sizes is.0 in
+    let same : requests ≡ sizes.requests = omega (arith, cut, few) in
+    answers (AnswersWorld (IsSummary sizes.requests)) sizes script is r
+    (subst (λ n. IfOk r (λ a. AnswersWorld (IsSummary n) script a.status.code a.text)) same given)

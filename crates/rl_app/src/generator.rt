@@ -6,7 +6,7 @@ ghost use Rattle.rl_script.specs.Fits.{ScriptFits};
 ghost use Rattle.rl_world.specs.Worlds.{StandsFor};
 ghost use Rattle.rl_app.specs.Command.{usage_line};
 ghost use Rattle.rl_app.specs.Gen.{GivesRun, GivesScript, IsPrinted, SomeEach, gen_sizes, number_from, sizes_of};
-ghost use Rattle.rl_app.specs.Generating.{IsGenerated};
+ghost use Rattle.rl_app.specs.Generating.{IsAnsweredBy, IsGenerated};
 ghost use Rattle.rl_app.specs.Serve.{Delivers, Writes, side};
 ghost use Rattle.rl_app.specs.Sim.{AnswersWorld};
 ghost use Rattle.rl_app.specs.Summary.{IsSummary};
@@ -82,8 +82,7 @@ fn script_answer(alloc: Global, sizes: Sizes) -> Result<Answer, Memory>
 {
     match script_of(alloc, sizes) {
         Ok(script) => printed_script(alloc, &script),
-        Err(GenError::GenLimit { name, limit }) => passed_answer(alloc, name, limit),
-        Err(GenError::Memory) => Err(Memory),
+        Err(refused) => refused_answer(alloc, refused),
     }
 }
 
@@ -94,8 +93,7 @@ fn run_answer(alloc: Global, sizes: Sizes) -> Result<Answer, Memory>
 {
     match script_of(alloc, sizes) {
         Ok(script) => run_summary(alloc, at_most(sizes.requests), script),
-        Err(GenError::GenLimit { name, limit }) => passed_answer(alloc, name, limit),
-        Err(GenError::Memory) => Err(Memory),
+        Err(refused) => refused_answer(alloc, refused),
     }
 }
 
@@ -109,6 +107,16 @@ fn script_of(alloc: Global, sizes: Sizes) -> Result<Script, GenError>
     let workers = at_most(sizes.workers);
     let requests = at_most(sizes.requests);
     generate(alloc, sizes.seed, nodes, workers, requests)
+}
+
+/// The answer where no script was generated.
+fn refused_answer(alloc: Global, refused: GenError) -> Result<Answer, Memory>
+    ensures { IsAnsweredBy refused result }
+{
+    match refused {
+        GenError::GenLimit { name, limit } => passed_answer(alloc, name, limit),
+        GenError::Memory => Err(Memory),
+    }
 }
 
 /// The answer with the printed form of a script.

@@ -12,5 +12,5 @@ returns c =
     let b = c.args.block.now in
     on_ok_weaker c.push_standing.result
     (λ more. line_joined (codes "node") (decimal b.node ∷ []) (standing_words b.head b.rows) _ _ _ c.in_ok-write.ensures.bytes
-    (more ∙ ap (λ rows. string_bytes c.write.new.out ++ flat_map (λ w. 32 ∷ w) (standing_words b.head rows)) c.as_slice.ensures))
+    (more ∙ ap (λ rows. string_bytes c.write.new.self ++ flat_map (λ w. 32 ∷ w) (standing_words b.head rows)) c.as_slice.ensures))
     c.push_standing.ensures
