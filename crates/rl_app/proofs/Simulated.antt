@@ -23,7 +23,7 @@ use Rattle.rl_world.specs.declared.world_error.WorldError.{WorldError}
 use Rattle.rl_world.specs.declared.world_error.WorldError.TheVariants as world
 use Rattle.rl_app.specs.declared.answer.Answer.{Answer}
 use Rattle.rl_app.specs.Serve.{IsAnswered, limit_line}
-use Rattle.rl_app.specs.Sim.{GivesWorld, IsSimReport}
+use Rattle.rl_app.specs.Sim.{AnswersWorld}
 use Rattle.rl_app.specs.Simulating.{CanBeGiven, HasTaken, StandsForRun}
 
 -- ---- events ----
@@ -88,9 +88,9 @@ same : (script : Script) (events : List Event) → ExpandedRunsAreRuns → event
 same script events runs are = ap (world_after (scripts.setup_of script)) are ∙ runs (scripts.setup_of script) script.events
 
 -- an answer by what the events lead to
-abbrev AnswerBy : Script → (status : ℕ) → (text : List ℕ) → Ran → Type 0
-AnswerBy script status text ran = MatchResult ran
-    (λ w. (status ≡ 0) × IsSimReport (scripts.setup_of script) w text)
+abbrev AnswerBy : (Setup → World → List ℕ → Type 0) → Script → (status : ℕ) → (text : List ℕ) → Ran → Type 0
+AnswerBy R script status text ran = MatchResult ran
+    (λ w. (status ≡ 0) × R (scripts.setup_of script) w text)
     (λ limit. (status ≡ 4) × (text ≡ limit_line (limit_name limit) (limit_of limit)))
 
 -- what a new world has taken is the run of its script
@@ -102,23 +102,23 @@ stands_for_run script events x runs are has = record {
   failed = has.failed;
 }
 
--- the answer with the report of a script's world
-pub reports : (script : Script) (x : Taken) → StandsForRun script x → (r : Result Answer Memory) → IfOk r (λ answer. answer.status.code ≡ 0)
-    → StandsFor x (λ w. IfOk r (λ answer. IsSimReport (setup_of x.setup) w answer.text)) → IfOk r (λ answer. GivesWorld script answer.status.code answer.text)
-reports script x run (Err memory) code stands = tt
-reports script x run (Ok answer) code stands =
+-- the answer with a text of a script's world
+pub reports : (R : Setup → World → List ℕ → Type 0) (script : Script) (x : Taken) → StandsForRun script x → (r : Result Answer Memory) → IfOk r (λ answer. answer.status.code ≡ 0)
+    → StandsFor x (λ w. IfOk r (λ answer. R (setup_of x.setup) w answer.text)) → IfOk r (λ answer. AnswersWorld R script answer.status.code answer.text)
+reports R script x run (Err memory) code stands = tt
+reports R script x run (Ok answer) code stands =
     let makes = stands run.failed in
     let ends : world_after (scripts.setup_of script) script.events ≡ Ok makes.world = sym run.same ∙ makes.is in
-    let report = subst (λ (s : Setup). IsSimReport s makes.world answer.text) run.setup makes.holds in
-    subst (AnswerBy script answer.status.code answer.text) (sym ends) (code, report)
+    let report = subst (λ (s : Setup). R s makes.world answer.text) run.setup makes.holds in
+    subst (AnswerBy R script answer.status.code answer.text) (sym ends) (code, report)
 
 -- or with the limit that its events pass
-pub stops : (script : Script) (name : LimitName) (limit : ℕ) → IsCause (world_after (scripts.setup_of script) script.events) (world.Limit name limit) → (r : Result Answer Memory)
-    → IfOk r (λ answer. answer.status.code ≡ 4) → IfOk r (λ answer. answer.text ≡ limit_line (limit_name name) limit) → IfOk r (λ answer. GivesWorld script answer.status.code answer.text)
-stops script name limit cause (Err memory) code text = tt
-stops script name limit cause (Ok answer) code text =
+pub stops : (R : Setup → World → List ℕ → Type 0) (script : Script) (name : LimitName) (limit : ℕ) → IsCause (world_after (scripts.setup_of script) script.events) (world.Limit name limit) → (r : Result Answer Memory)
+    → IfOk r (λ answer. answer.status.code ≡ 4) → IfOk r (λ answer. answer.text ≡ limit_line (limit_name name) limit) → IfOk r (λ answer. AnswersWorld R script answer.status.code answer.text)
+stops R script name limit cause (Err memory) code text = tt
+stops R script name limit cause (Ok answer) code text =
     let line : answer.text ≡ limit_line (limit_name name) (limit_of name) = text ∙ ap (limit_line (limit_name name)) cause.1 in
-    subst (AnswerBy script answer.status.code answer.text) (sym cause.0) (code, line)
+    subst (AnswerBy R script answer.status.code answer.text) (sym cause.0) (code, line)
 
 -- both are answers
 pub answers_well : (r : Result Answer Memory) → IfOk r (λ answer. answer.status.code ≡ 0) → IfOk r (λ answer. IsAnswered answer.status.code)
