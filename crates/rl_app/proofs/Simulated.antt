@@ -1,6 +1,6 @@
 -- A new world is given the events of a script, one after another, and then reports.
-use Rattle.std.proofs.Common.{◌≡◌, ℕ, ◌+◌, ◌<◌, ◌≤◌, List, [], ◌∷◌, ◌++◌, length, take, drop, get_or, sum_by, All, MatchOption, None, Result, Ok, Err, IfOk, MatchResult, refl, sym, ap, ◌∙◌, subst, arith, inl, inr}
-use Rattle.std.proofs.lemmas.List.{take_more, take-append-drop}
+use Rattle.std.proofs.Common.{◌≡◌, ℕ, ◌+◌, ◌<◌, ◌≤◌, List, [], ◌∷◌, ◌++◌, length, take, drop, get_or, sum_by, All, MatchOption, None, Result, Ok, Err, IfOk, IsErrAnd, MatchResult, refl, sym, ap, ◌∙◌, subst, arith, inl, inr}
+use Rattle.std.proofs.lemmas.List.{take_more, take-append-drop, get_or_default}
 use Rattle.std.proofs.lemmas.List.Sums.{sum_by-append, sum_by-cons, sum_by_more_le}
 use Rattle.rl_base.specs.Results.{◌>>=◌}
 use Rattle.rl_base.specs.declared.limit.LimitName.{LimitName}
@@ -34,6 +34,17 @@ passed go_on setup events more (world.Limit name limit) cause =
     (go_on setup events more ∙ ap (λ (ran : Ran). ran >>= after_events setup (expanded_events setup more)) cause.0, cause.1)
 passed go_on setup events more world.Memory cause = tt
 
+-- the next event of a list is one of an equal list
+pub next_is : (items events : List Event) (i : ℕ) → items ≡ events → (d : Event) → i < length items → (i < length events) × (get_or items i d ≡ get_or events i (get_or items i d))
+next_is items events i same d within =
+    let there : i < length events = subst (λ (es : List Event). i < length es) same within in
+    (there, ap (λ es. get_or es i d) same ∙ get_or_default events i d (get_or items i d) there)
+
+-- an error that is a known one has what is true of that
+pub known_refusal : {T E : Type 0} (A : Type 0) (P : E → Type 0) (e : E) (r : Result T E) → IsErrAnd r (λ x. x ≡ e) → P e → MatchResult r (λ _. A) P
+known_refusal A P e (Ok x) is h = absurd is
+known_refusal A P e (Err x) is h = subst P (sym is) h
+
 module _ (setup : Setup) (events : List Event) (can : CanBeGiven setup events) (i : ℕ) (e : Event) (within : i < length events) (is : e ≡ get_or events i e)
     (x : Taken) (has : HasTaken setup (take i events) x) where
   at : (P : Event → Type 0) → All P events → P e
@@ -49,10 +60,7 @@ module _ (setup : Setup) (events : List Event) (can : CanBeGiven setup events) (
 
   -- the next event may be given
   pub fits : EventFits (setup_of x.setup).nodes (setup_of x.setup).workers e
-  fits = subst (λ (s : Setup). EventFits s.nodes s.workers e) (sym has.setup) (at (EventFits setup.nodes setup.workers) can.fit)
-
-  pub plain : IsNotRandom e
-  plain = at IsNotRandom can.not_random
+  fits = subst (λ (s : Setup). EventFits s.nodes s.workers e) (sym has.its_setup) (at (EventFits setup.nodes setup.workers) can.fit)
 
   pub room : x.counted + count_of e ≤ EVENTS
   room =
@@ -62,8 +70,8 @@ module _ (setup : Setup) (events : List Event) (can : CanBeGiven setup events) (
   -- and is taken
   pub taken : (y : Taken) → TakesEvent x y e → HasTaken setup (take (i + 1) events) y
   taken y takes = record {
-    setup = ap (λ (z : Taken). setup_of z.setup) takes.now ∙ has.setup;
-    events = ap (λ (z : Taken). z.events) takes.now ∙ ap (λ es. es ++ e ∷ []) has.events ∙ sym more;
+    its_setup = ap (λ (z : Taken). setup_of z.setup) takes.now ∙ has.its_setup;
+    its_events = ap (λ (z : Taken). z.events) takes.now ∙ ap (λ es. es ++ e ∷ []) has.its_events ∙ sym more;
     counted = ap (λ (z : Taken). z.counted) takes.now ∙ ap (λ n. n + count_of e) has.counted ∙ sym counts;
     failed = ap (λ (z : Taken). z.failed) takes.now;
   }
@@ -73,34 +81,17 @@ module _ (setup : Setup) (events : List Event) (can : CanBeGiven setup events) (
   refused go_on y error refuses =
       let first : IsCause (with_event x e) error = subst (λ failed. MatchOption failed (IsCause (with_event x e) error) (λ f. error ≡ f)) has.failed refuses.why in
       let due : with_event x e ≡ world_after setup (take (i + 1) events) =
-      ap (λ (s : Setup). world_after s (x.events ++ e ∷ [])) has.setup ∙ ap (λ es. world_after setup (es ++ e ∷ [])) has.events ∙ ap (world_after setup) (sym more) in
+      ap (λ (s : Setup). world_after s (x.events ++ e ∷ [])) has.its_setup ∙ ap (λ es. world_after setup (es ++ e ∷ [])) has.its_events ∙ ap (world_after setup) (sym more) in
       let all = passed go_on setup (take (i + 1) events) (drop (i + 1) events) error (subst (λ (ran : Ran). IsCause ran error) due first) in
       subst (λ es. IsCause (world_after setup es) error) (take-append-drop (i + 1) events) all
 
 -- ---- the answer ----
-
--- a new world has taken no event
-pub new_has : (script : Script) (x : Taken) → IsNew script x → HasTaken (setup_of x.setup) [] x
-new_has script x new = record { setup = refl; events = new.events; counted = new.counted; failed = new.failed }
-
-same : (script : Script) (events : List Event) → ExpandedRunsAreRuns → events ≡ expanded_events (scripts.setup_of script) script.events
-    → world_after (scripts.setup_of script) events ≡ world_after (scripts.setup_of script) script.events
-same script events runs are = ap (world_after (scripts.setup_of script)) are ∙ runs (scripts.setup_of script) script.events
 
 -- an answer by what the events lead to
 abbrev AnswerBy : (Setup → World → List ℕ → Type 0) → Script → (status : ℕ) → (text : List ℕ) → Ran → Type 0
 AnswerBy R script status text ran = MatchResult ran
     (λ w. (status ≡ 0) × R (scripts.setup_of script) w text)
     (λ limit. (status ≡ 4) × (text ≡ limit_line (limit_name limit) (limit_of limit)))
-
--- what a new world has taken is the run of its script
-pub stands_for_run : (script : Script) (events : List Event) (x : Taken) → ExpandedRunsAreRuns → events ≡ expanded_events (scripts.setup_of script) script.events
-    → HasTaken (scripts.setup_of script) events x → StandsForRun script x
-stands_for_run script events x runs are has = record {
-  setup = has.setup;
-  same = ap (λ (s : Setup). world_after s x.events) has.setup ∙ ap (world_after (scripts.setup_of script)) has.events ∙ same script events runs are;
-  failed = has.failed;
-}
 
 -- the answer with a text of a script's world
 pub reports : (R : Setup → World → List ℕ → Type 0) (script : Script) (x : Taken) → StandsForRun script x → (r : Result Answer Memory) → IfOk r (λ answer. answer.status.code ≡ 0)
@@ -119,12 +110,3 @@ stops R script name limit cause (Err memory) code text = tt
 stops R script name limit cause (Ok answer) code text =
     let line : answer.text ≡ limit_line (limit_name name) (limit_of name) = text ∙ ap (limit_line (limit_name name)) cause.1 in
     subst (AnswerBy R script answer.status.code answer.text) (sym cause.0) (code, line)
-
--- both are answers
-pub answers_well : (r : Result Answer Memory) → IfOk r (λ answer. answer.status.code ≡ 0) → IfOk r (λ answer. IsAnswered answer.status.code)
-answers_well (Ok answer) code = inl code
-answers_well (Err memory) code = tt
-
-pub answers_limit : (r : Result Answer Memory) → IfOk r (λ answer. answer.status.code ≡ 4) → IfOk r (λ answer. IsAnswered answer.status.code)
-answers_limit (Ok answer) code = inr (inr (inr code))
-answers_limit (Err memory) code = tt

@@ -19,8 +19,8 @@ pub record CanBeGiven (setup : Setup) (events : List Event) : Type 0 where
 
 -- a world of a setup that took some events, and refused none
 pub record HasTaken (setup : Setup) (events : List Event) (x : Taken) : Type 0 where
-  pub setup : setup_of x.setup ≡ setup
-  pub events : x.events ≡ events
+  pub its_setup : setup_of x.setup ≡ setup
+  pub its_events : x.events ≡ events
   pub counted : x.counted ≡ sum_by count_of events
   pub failed : x.failed ≡ None
 
