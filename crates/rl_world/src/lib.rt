@@ -3,6 +3,7 @@
 
 mod blocks;
 mod copies;
+mod delivering;
 pub mod laws;
 mod lines;
 mod releases;
