@@ -4,7 +4,7 @@
 -- (Sending), and lines, refusals and released items join those told before (LastReleased).
 --     Moments, Amid, Repeating: how the worlds of a run follow on each other, also within one event.
 --     Messages: Marking, Dropping, Delivering and Reaching have one that is delivered or dropped, Pending those that are
--- left. Working has the steps of a worker.
+-- left. Working, Stepped and Steps have the steps of a worker.
 --     Reports: Names, Rows, Streams and Shown have the parts that are printed.
 pub mod Amid
 pub mod Answering
@@ -24,6 +24,8 @@ pub mod Sending
 pub mod Setups
 pub mod Shown
 pub mod Standing
+pub mod Stepped
+pub mod Steps
 pub mod Streams
 pub mod Taking
 pub mod Working
