@@ -1,5 +1,5 @@
 -- All pending messages of a run are delivered, one after another.
-use Rattle.std.proofs.Common.{◌≡◌, ℕ, suc, ◌-◌, ◌<◌, ◌≤◌, true, List, ◌∷◌, length, map, drop, ap, subst, ◌∙◌, arith}
+use Rattle.std.proofs.Common.{◌≡◌, ℕ, suc, ◌-◌, ◌<◌, ◌≤◌, true, List, ◌∷◌, length, map, drop, Result, ap, subst, ◌∙◌, arith}
 use Rattle.std.proofs.lemmas.List.{length-map}
 use Rattle.rl_events.specs.Fits.{EventFits}
 use Rattle.rl_events.specs.declared.event.Event.TheVariants as event
@@ -7,15 +7,16 @@ use Rattle.rl_net.specs.Messages as net
 use Rattle.rl_nodes.specs.Events.{for_each, delivers}
 use Rattle.rl_nodes.specs.Setups.{Setup}
 use Rattle.rl_nodes.specs.World.{World, Sent, pending_from}
+use Rattle.rl_node.specs.SetupOf.{setup_of}
 use Rattle.rl_world.specs.Amid.{HasDelivered}
-use Rattle.rl_world.specs.Moments.{Moment}
-use Rattle.rl_world.specs.Standing.{StandsRun, HasRun}
+use Rattle.rl_world.specs.Moments.{Moment, IsAmid, TriesAmid}
+use Rattle.rl_world.specs.Standing.{StandsRun, HasRun, Tries}
 use Rattle.rl_world.specs.Telling.{kept}
 use Rattle.rl_world.specs.Worlds.{IsCause}
 use Rattle.rl_world.specs.declared.run.Run.{Run}
 use Rattle.rl_world.specs.declared.world_error.WorldError.{WorldError}
 use Rattle.rl_world.specs.declared.world_error.WorldError.TheVariants.{Limit, Memory}
-use Rattle.rl_world.proofs.Delivering.{all_begin, all_next, all_fails, all_end}
+use Rattle.rl_world.proofs.Deliveries.{all_begin, all_next, all_fails, all_end}
 use Rattle.rl_world.proofs.Moments.{next_moment}
 use Rattle.rl_world.proofs.Pending.{none_left, next_left}
 
@@ -59,3 +60,13 @@ module _ (setup : Setup) (r : Run) (first : Moment setup) (after upto : ℕ) (h 
         (subst (λ ms. net.NonePending ms after upto) h.stands.told.net none)));
     stands = h.stands;
   }
+
+-- ---- moments of a setup that is that of a run ----
+
+pub amid_at : (setup : Setup) (r : Run) → setup_of r.setup ≡ setup → (m : Moment setup) → StandsRun r m.world → IsAmid r
+amid_at setup r same m st = subst (λ s. (n : Moment s) → StandsRun r n.world → IsAmid r) same (λ n h. record { moment = n; stands = h }) m st
+
+pub tries_at : (setup : Setup) (r new : Run) (number : ℕ) (result : Result (Unit {0}) WorldError) → setup_of r.setup ≡ setup
+    → TriesAmid r new (delivers (setup_of r.setup) number) result → (m : Moment setup) → StandsRun r m.world → Tries new (delivers setup number m.world) result
+tries_at setup r new number result same h m st =
+    subst (λ s. (n : Moment s) → StandsRun r n.world → Tries new (delivers s number n.world) result) same h m st

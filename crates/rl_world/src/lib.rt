@@ -3,9 +3,11 @@
 
 mod blocks;
 mod copies;
+mod delivering;
 pub mod laws;
 mod lines;
 mod releases;
 mod run;
+mod stepping;
 mod told;
 pub mod world_error;

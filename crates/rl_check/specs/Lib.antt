@@ -1,0 +1,6 @@
+pub mod Counts
+pub mod Differences
+pub mod Inputs
+pub mod Reruns
+pub mod Right
+pub mod Verdicts

@@ -1,0 +1,10 @@
+//! Checks the report of a run of threads against its script.
+#![tactic(auto)]
+
+pub mod check;
+pub mod input;
+mod nodes;
+mod rerun;
+mod rows;
+mod stamps;
+pub mod verdict;
