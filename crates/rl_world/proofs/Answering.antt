@@ -173,6 +173,21 @@ module _ (r : Run) (a number : ℕ) (n : Node) (told : Told) (due : NodeState �
     };
   }
 
+  -- a refusal has become what was due
+  pub refused_at : (w : World) → StandsRun r w → (f : NodeError) (result : Result (Unit {0}) WorldError)
+      → Refuses (setup_of r.setup) a n (Old w) (Ans w) f
+      → OnOk result (HasFinished r.told told number a (Err f)) → IfErr result (HasNotFinished r.told (Err f))
+      → Tries (with_node r a n told) (after_answer w a number (Ans w)) result
+  refused_at w st node.BadMessage (Ok u) f ok err = kept_run w node.BadMessage st f.refused.0 refl f.new f.stands f.refused.1 ok
+  refused_at w st (node.NoEpoch p) (Ok u) f ok err = kept_run w (node.NoEpoch p) st f.refused.0 refl f.new f.stands f.refused.1 ok
+  refused_at w st (node.StreamFull s) (Ok u) f ok err = absurd ok
+  refused_at w st node.Memory (Ok u) f ok err = absurd ok
+  refused_at w st node.BadMessage (Err error) f ok err = absurd err
+  refused_at w st (node.NoEpoch p) (Err error) f ok err = absurd err
+  refused_at w st (node.StreamFull s) (Err error) f ok err =
+      subst (IsCause (after_answer w a number (Ans w))) (sym err) (ap (after_answer w a number) f.refused.0, refl)
+  refused_at w st node.Memory (Err error) f ok err = subst (IsCause (after_answer w a number (Ans w))) (sym err) tt
+
   -- what a node of a world answered has become what was due
   pub answered_at : (w : World) → StandsRun r w → TellsPlainly w (Ans w) → (answer : Result Out NodeError) (result : Result (Unit {0}) WorldError)
       → IfOk answer (Does (setup_of r.setup) a n (Old w) (Ans w)) → IfErr answer (Refuses (setup_of r.setup) a n (Old w) (Ans w))
@@ -180,15 +195,7 @@ module _ (r : Run) (a number : ℕ) (n : Node) (told : Told) (due : NodeState �
       → Tries (with_node r a n told) (after_answer w a number (Ans w)) result
   answered_at w st plain (Ok out) (Ok u) does refuses ok err = did_it w out st plain does ok
   answered_at w st plain (Ok out) (Err error) does refuses ok err = over_it w out error st plain does err
-  answered_at w st plain (Err node.BadMessage) (Ok u) does f ok err = kept_run w node.BadMessage st f.refused.0 refl f.new f.stands f.refused.1 ok
-  answered_at w st plain (Err (node.NoEpoch p)) (Ok u) does f ok err = kept_run w (node.NoEpoch p) st f.refused.0 refl f.new f.stands f.refused.1 ok
-  answered_at w st plain (Err (node.StreamFull s)) (Ok u) does f ok err = absurd ok
-  answered_at w st plain (Err node.Memory) (Ok u) does f ok err = absurd ok
-  answered_at w st plain (Err node.BadMessage) (Err error) does f ok err = absurd err
-  answered_at w st plain (Err (node.NoEpoch p)) (Err error) does f ok err = absurd err
-  answered_at w st plain (Err (node.StreamFull s)) (Err error) does f ok err =
-      subst (IsCause (after_answer w a number (Ans w))) (sym err) (ap (after_answer w a number) f.refused.0, refl)
-  answered_at w st plain (Err node.Memory) (Err error) does f ok err = subst (IsCause (after_answer w a number (Ans w))) (sym err) tt
+  answered_at w st plain (Err f) result does refuses ok err = refused_at w st f result refuses ok err
 
   -- whatever world it was of
   pub answered : ((w : World) → StandsRun r w → TellsPlainly w (Ans w)) → (answer : Result Out NodeError) (result : Result (Unit {0}) WorldError)

@@ -4,7 +4,7 @@
 -- (Sending), and lines, refusals and released items join those told before (LastReleased).
 --     Moments, Amid, Repeating: how the worlds of a run follow on each other, also within one event.
 --     Messages: Marking, Dropping, Deliveries, Reaching and Receiving have one that is delivered or dropped, Pending those
--- that are left. Working has the steps of a worker, Playing the streams that a replica plays.
+-- that are left. Working, Stepped and Steps have the steps of a worker, Playing the streams that a replica plays.
 --     Reports: Names, Rows, Streams and Shown have the parts that are printed.
 pub mod Amid
 pub mod Answering
@@ -26,6 +26,8 @@ pub mod Sending
 pub mod Setups
 pub mod Shown
 pub mod Standing
+pub mod Stepped
+pub mod Steps
 pub mod Streams
 pub mod Taking
 pub mod Working

@@ -6,3 +6,8 @@ use Rattle.std.specs.Result.{IsErrAnd, IfErr}
 pub known_error : {T E : Type 0} (P : E → Type 0) (e : E) (r : Result T E) → IsErrAnd r (λ x. x ≡ e) → P e → IfErr r P
 known_error P e (Ok x) is h = tt
 known_error P e (Err x) is h = subst P (sym is) h
+
+-- so a result that is one
+pub known_result : {T E : Type 0} (Q : Result T E → Type 0) (e : E) (r : Result T E) → IsErrAnd r (λ x. x ≡ e) → Q (Err e) → Q r
+known_result Q e (Ok x) is h = absurd is
+known_result Q e (Err x) is h = subst (λ y. Q (Err y)) (sym is) h

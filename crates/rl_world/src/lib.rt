@@ -8,5 +8,6 @@ pub mod laws;
 mod lines;
 mod releases;
 mod run;
+mod stepping;
 mod told;
 pub mod world_error;

@@ -1,15 +1,18 @@
 //! What events come to, as lines of a report.
 
-ghost use Rattle.std.specs.Prelude.{◌≡◌, ◌<◌, ◌++◌, sum, OnOk, IfOk};
+ghost use Rattle.std.specs.Prelude.{◌≡◌, ◌<◌, ◌++◌, All, sum, option_to_list, OnOk, IfOk, IfSome};
+ghost use Rattle.std.specs.List.{flat_map};
 ghost use Rattle.rl_value.specs.Tables.{IsSchema};
 ghost use Rattle.rl_tables.specs.Numbers.{sizes_of};
-ghost use Rattle.rl_worker.specs.Told.{record_in};
+ghost use Rattle.rl_worker.specs.Told.{record_in, NamesRecord};
+ghost use Rattle.rl_node.specs.Moves.{line_of};
 ghost use Rattle.rl_report.specs.Forms.{IsEffect};
-ghost use Rattle.rl_world.specs.Reported.{refused_line, denied_lines};
+ghost use Rattle.rl_world.specs.Reported.{refused_line, denied_lines, line_reported};
 
 use rl_base::list::Bytes;
 use rl_base::memory::Memory;
 use rl_base::refusal::Refusal;
+use rl_node::answer::Stepped;
 use rl_paxos::refused::Refused;
 use rl_report::middle::{Lines, Middle};
 use rl_tables::layout::Layout;
@@ -65,6 +68,35 @@ pub fn refused_line(
             found,
         },
     })
+}
+
+/// The line of the attempt that a step of a worker tells as refused, if it tells one.
+pub fn step_line(
+    alloc: Global,
+    schema: &Schema,
+    layout: &Layout,
+    worker: u32,
+    stepped: &Stepped,
+) -> Result<Option<Middle>, Memory>
+    requires schema { IsSchema schema.now }
+    requires layout { layout.now ≡ sizes_of schema.now }
+    requires names { IfSome stepped.now.moved (λ moved. NamesRecord schema.now moved.refused) }
+    ensures line { IfOk result (λ line. option_to_list line
+        ≡ flat_map (line_reported schema.now) (option_to_list (line_of worker stepped.now))) }
+    ensures effect { IfOk result (λ line. All IsEffect (option_to_list line)) }
+{
+    let Some(moved) = &stepped.moved else {
+        return Ok(None);
+    };
+    let Some(refusal) = moved.refused else {
+        return Ok(None);
+    };
+    let attempt = Attempt {
+        epoch: stepped.epoch,
+        worker,
+        index: stepped.index,
+    };
+    Ok(Some(refused_line(alloc, schema, layout, attempt, refusal)?))
 }
 
 /// The record of a refusal.
