@@ -6,8 +6,11 @@ use Rattle.rl_base.specs.declared.limit.TheConstants.{SLOTS, BYTES}
 use Rattle.rl_events.specs.Fits.{count_of}
 use Rattle.rl_events.specs.declared.event.Event.{Event}
 use Rattle.rl_nodes.specs.Events.{world_after}
-use Rattle.rl_nodes.specs.Setups.{Setup}
 use Rattle.rl_nodes.specs.World.{World, Ran}
+use Rattle.rl_node.specs.SetupOf.{setup_of}
+use Rattle.rl_node.specs.declared.setup.Setup.{Setup}
+use Rattle.rl_script.specs.declared.script.Script.{Script}
+use Rattle.rl_world.specs.Scripts as scripts
 use Rattle.rl_world.specs.declared.world_error.WorldError.{WorldError}
 use Rattle.rl_world.specs.declared.world_error.WorldError.TheVariants.{Limit, Memory}
 
@@ -18,17 +21,26 @@ pub record Taken : Type 0 where
   pub counted : ℕ
   pub failed : Option WorldError
 
--- a world that took no event
-abbrev pub nothing_taken : Setup → Taken
-nothing_taken setup = record { setup = setup; events = []; counted = 0; failed = None }
+-- a world of a script's setup that took no event
+pub record IsNew (script : Script) (x : Taken) : Type 0 where
+  pub setup : setup_of x.setup ≡ scripts.setup_of script
+  pub events : x.events ≡ []
+  pub counted : x.counted ≡ 0
+  pub failed : x.failed ≡ None
 
 -- what its events and one more lead to
 abbrev pub with_event : Taken → Event → Ran
-with_event x e = world_after x.setup (x.events ++ e ∷ [])
+with_event x e = world_after (setup_of x.setup) (x.events ++ e ∷ [])
+
+-- the world that its events make, of which something is true
+pub record Makes (x : Taken) (P : World → Type 0) : Type 0 where
+  pub world : World
+  pub is : world_after (setup_of x.setup) x.events ≡ Ok world
+  pub holds : P world
 
 -- as long as it refused no event, it stands for the world that its events make
 abbrev pub StandsFor : Taken → (World → Type 0) → Type 0
-StandsFor x P = x.failed ≡ None → (w : World) × (world_after x.setup x.events ≡ Ok w) × P w
+StandsFor x P = x.failed ≡ None → Makes x P
 
 -- ---- an event ----
 
