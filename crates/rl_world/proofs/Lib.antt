@@ -5,12 +5,17 @@
 --     Moments, Amid, Repeating: how the worlds of a run follow on each other, also within one event.
 --     Messages: Marking, Dropping, Deliveries, Reaching and Receiving have one that is delivered or dropped, Pending those
 -- that are left. Working, Stepped and Steps have the steps of a worker, Playing the streams that a replica plays.
---     Reports: Names, Rows, Streams and Shown have the parts that are printed.
+--     Reports: Names, Rows, Streams, Shown and Showings have the parts that are printed.
+--     Happened: an event of any kind does what its call does. Keeping: so a world goes on from event to event.
+-- Expanding: events where each random one is written out stand for themselves.
 pub mod Amid
 pub mod Answering
 pub mod Beginning
 pub mod Deliveries
 pub mod Dropping
+pub mod Expanding
+pub mod Happened
+pub mod Keeping
 pub mod LastReleased
 pub mod Marking
 pub mod Moments
@@ -24,6 +29,7 @@ pub mod Results
 pub mod Rows
 pub mod Sending
 pub mod Setups
+pub mod Showings
 pub mod Shown
 pub mod Standing
 pub mod Stepped

@@ -14,7 +14,7 @@ use Rattle.rl_safe.specs.Runs as runs
 use Rattle.rl_world.specs.Moments.{Moment}
 
 -- an event that is not random stands for itself
-stands_for_itself : (nodes workers : ℕ) (e : Event) → IsNotRandom e → expanded nodes workers e ≡ e ∷ []
+pub stands_for_itself : (nodes workers : ℕ) (e : Event) → IsNotRandom e → expanded nodes workers e ≡ e ∷ []
 stands_for_itself nodes workers (event.Step n s count) h = refl
 stands_for_itself nodes workers (event.Flush n s) h = refl
 stands_for_itself nodes workers (event.Idle n s) h = refl

@@ -1,5 +1,6 @@
 pub mod Amid
 pub mod Finishing
+pub mod Kept
 pub mod Laws
 pub mod Moments
 pub mod Pending
