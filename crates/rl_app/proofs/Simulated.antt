@@ -1,5 +1,5 @@
 -- A new world is given the events of a script, one after another, and then reports.
-use Rattle.std.proofs.Common.{◌≡◌, ℕ, ◌+◌, ◌<◌, ◌≤◌, List, [], ◌∷◌, ◌++◌, length, take, drop, get_or, sum_by, All, MatchOption, None, Result, Ok, Err, IfOk, IsErrAnd, MatchResult, refl, sym, ap, ◌∙◌, subst, arith, inl, inr}
+use Rattle.std.proofs.Common.{◌≡◌, ℕ, ◌+◌, ◌<◌, ◌≤◌, List, [], ◌∷◌, ◌++◌, length, take, drop, get_or, sum_by, All, MatchOption, None, Result, Ok, Err, IfOk, IfErr, IsErrAnd, MatchResult, refl, sym, ap, ◌∙◌, subst, arith, inl, inr}
 use Rattle.std.proofs.lemmas.List.{take_more, take-append-drop, get_or_default}
 use Rattle.std.proofs.lemmas.List.Sums.{sum_by-append, sum_by-cons, sum_by_more_le}
 use Rattle.rl_base.specs.Results.{◌>>=◌}
@@ -86,6 +86,27 @@ module _ (setup : Setup) (events : List Event) (can : CanBeGiven setup events) (
       subst (λ es. IsCause (world_after setup es) error) (take-append-drop (i + 1) events) all
 
 -- ---- the answer ----
+
+-- a new world that has taken the events of a script, random ones written out, stands for the run of the script
+module _ (script : Script) (x : Taken) (new : IsNew script x) (runs : ExpandedRunsAreRuns) (events : List Event)
+    (are : events ≡ expanded_events (scripts.setup_of script) script.events) where
+  same : world_after (setup_of x.setup) events ≡ world_after (scripts.setup_of script) script.events
+  same =
+      ap (λ (s : Setup). world_after s events) new.setup ∙ ap (world_after (scripts.setup_of script)) are
+      ∙ runs (scripts.setup_of script) script.events
+
+  pub stands_for_run : (y : Taken) → HasTaken (setup_of x.setup) events y → StandsForRun script y
+  stands_for_run y has = record {
+    setup = has.its_setup ∙ new.setup;
+    same = ap (λ (s : Setup). world_after s y.events) has.its_setup ∙ ap (world_after (setup_of x.setup)) has.its_events ∙ same;
+    failed = has.failed;
+  }
+
+  -- or it stops where the script's events do
+  pub stops_run : {T : Type 0} (error : WorldError) (r : Result T WorldError) → IsErrAnd r (λ e. e ≡ error)
+      → IsCause (world_after (setup_of x.setup) events) error → IfErr r (IsCause (world_after (scripts.setup_of script) script.events))
+  stops_run error (Ok done) is cause = tt
+  stops_run error (Err e) is cause = subst (λ (ran : Ran). IsCause ran e) same (subst (IsCause (world_after (setup_of x.setup) events)) (sym is) cause)
 
 -- an answer by what the events lead to
 abbrev AnswerBy : (Setup → World → List ℕ → Type 0) → Script → (status : ℕ) → (text : List ℕ) → Ran → Type 0
