@@ -1,5 +1,5 @@
 -- A new world is given the events of a script, one after another, and then reports.
-use Rattle.std.proofs.Common.{◌≡◌, ℕ, ◌+◌, ◌<◌, ◌≤◌, List, [], ◌∷◌, ◌++◌, length, take, drop, get_or, sum_by, All, MatchOption, None, Result, Ok, Err, IfOk, IsErrAnd, MatchResult, refl, sym, ap, ◌∙◌, subst, arith, inl, inr}
+use Rattle.std.proofs.Common.{◌≡◌, ℕ, ◌+◌, ◌<◌, ◌≤◌, List, [], ◌∷◌, ◌++◌, length, take, drop, get_or, sum_by, All, MatchOption, None, Result, Ok, Err, IfOk, IfErr, IsErrAnd, MatchResult, refl, sym, ap, ◌∙◌, subst, arith, inl, inr}
 use Rattle.std.proofs.lemmas.List.{take_more, take-append-drop, get_or_default}
 use Rattle.std.proofs.lemmas.List.Sums.{sum_by-append, sum_by-cons, sum_by_more_le}
 use Rattle.rl_base.specs.Results.{◌>>=◌}
@@ -45,6 +45,10 @@ pub known_refusal : {T E : Type 0} (A : Type 0) (P : E → Type 0) (e : E) (r : 
 known_refusal A P e (Ok x) is h = absurd is
 known_refusal A P e (Err x) is h = subst P (sym is) h
 
+pub known_error : {T E : Type 0} (P : E → Type 0) (e : E) (r : Result T E) → IsErrAnd r (λ x. x ≡ e) → P e → IfErr r P
+known_error P e (Ok x) is h = tt
+known_error P e (Err x) is h = subst P (sym is) h
+
 module _ (setup : Setup) (events : List Event) (can : CanBeGiven setup events) (i : ℕ) (e : Event) (within : i < length events) (is : e ≡ get_or events i e)
     (x : Taken) (has : HasTaken setup (take i events) x) where
   at : (P : Event → Type 0) → All P events → P e
@@ -86,6 +90,20 @@ module _ (setup : Setup) (events : List Event) (can : CanBeGiven setup events) (
       subst (λ es. IsCause (world_after setup es) error) (take-append-drop (i + 1) events) all
 
 -- ---- the answer ----
+
+-- what the events of a script lead to, those that its random ones stand for lead to
+pub same_run : (script : Script) (events : List Event) → ExpandedRunsAreRuns → events ≡ expanded_events (scripts.setup_of script) script.events
+    → world_after (scripts.setup_of script) events ≡ world_after (scripts.setup_of script) script.events
+same_run script events runs are = ap (world_after (scripts.setup_of script)) are ∙ runs (scripts.setup_of script) script.events
+
+-- so a world that has taken those is that of the script
+pub stands_for_run : (script : Script) (events : List Event) (x : Taken) → ExpandedRunsAreRuns → events ≡ expanded_events (scripts.setup_of script) script.events
+    → HasTaken (scripts.setup_of script) events x → StandsForRun script x
+stands_for_run script events x runs are has = record {
+  setup = has.its_setup;
+  same = ap (λ (s : Setup). world_after s x.events) has.its_setup ∙ ap (world_after (scripts.setup_of script)) has.its_events ∙ same_run script events runs are;
+  failed = has.failed;
+}
 
 -- an answer by what the events lead to
 abbrev AnswerBy : (Setup → World → List ℕ → Type 0) → Script → (status : ℕ) → (text : List ℕ) → Ran → Type 0
