@@ -44,8 +44,8 @@ pub struct Sizes {
 pub fn gen_command<K: Sink>(alloc: Global, words: &[String], sink: &mut K) -> Status
     ensures { let sides = side K.held K.faults sink.old sink.new in MatchOption (gen_sizes (codes "script") words.now)
         (MatchOption (gen_sizes (codes "run") words.now)
-            (Delivers sides 2 usage_line result.code)
-            (λ sizes. Writes (GivesRun sizes) sides result.code))
+        (Delivers sides 2 usage_line result.code)
+        (λ sizes. Writes (GivesRun sizes) sides result.code))
         (λ sizes. Writes (GivesScript sizes) sides result.code) }
 {
     if let Some(sizes) = gen_sizes("script", words) {
