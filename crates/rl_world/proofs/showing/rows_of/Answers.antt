@@ -1,8 +1,5 @@
-use Rattle.std.proofs.Common.{◌≡◌, ℕ, List, [], Bool, true, false, refl, sym, ap, ◌∙◌}
+use Rattle.std.proofs.Common.{sym, ap, ◌∙◌}
 use Rattle.std.specs.FinMap.{entries}
-use Rattle.rl_election.specs.World.{State, Up, Down, Lost, is_up}
-use Rattle.rl_nodes.specs.Nodes.{NodeState}
-use Rattle.rl_nodes.specs.Views.{rows_in}
 use Rattle.rl_world.proofs.Showings.{up_rows, away_rows}
 use Rattle.rl_world.proofs.showing.rows_of.Goals as goal
 

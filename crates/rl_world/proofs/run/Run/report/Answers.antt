@@ -1,4 +1,4 @@
-use Rattle.std.proofs.Common.{◌≡◌, All, sym, subst}
+use Rattle.std.proofs.Common.{All, sym, subst}
 use Rattle.rl_node.specs.SetupOf.{setup_of}
 use Rattle.rl_report.specs.Forms.{IsEffect, IsSimulated, AreNodes}
 use Rattle.rl_world.proofs.Shown.{is_report}

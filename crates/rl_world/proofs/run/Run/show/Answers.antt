@@ -1,4 +1,4 @@
-use Rattle.std.proofs.Common.{◌≡◌, List, ap}
+use Rattle.std.proofs.Common.{List, ap}
 use Rattle.rl_report.specs.declared.middle.Middle.{Middle}
 use Rattle.rl_world.specs.declared.told.Told.{Told}
 use Rattle.rl_world.proofs.Showings.{shows}
