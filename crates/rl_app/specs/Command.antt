@@ -4,14 +4,15 @@ use Rattle.std.specs.Global.{Global}
 use Rattle.std.specs.Str.{bytes_eq}
 use Rattle.std.specs.String.{string_bytes}
 use Rattle.rl_app.specs.declared.command.Form.{Form}
-use Rattle.rl_app.specs.declared.command.Form.TheVariants.{Serial, Steps, GenScript}
+use Rattle.rl_app.specs.declared.command.Form.TheVariants.{Serial, Steps, Check, GenScript}
 use Rattle.rl_app.specs.Gen.{gen_sizes}
 
--- the form of one word: `serial` or `steps`
+-- the form of one word: `serial`, `steps` or `check`
 abbrev pub plain_form : List ℕ → Option Form
 plain_form word =
     if bytes_eq word (codes "serial") then Some Serial
-    else (if bytes_eq word (codes "steps") then Some Steps else None)
+    else (if bytes_eq word (codes "steps") then Some Steps
+    else (if bytes_eq word (codes "check") then Some Check else None))
 
 -- the form that some words have
 abbrev pub form_of : List (String Global) → Option Form

@@ -4,6 +4,7 @@ ghost use Rattle.std.specs.Prelude.{◌≡◌, ◌⊎◌, ℕ, List, Some, None,
 ghost use Rattle.rl_app.specs.declared.command.Form.{Form};
 ghost use Rattle.rl_app.specs.Answers.{Reports};
 ghost use Rattle.rl_app.specs.declared.generator.Sizes.{Sizes};
+ghost use Rattle.rl_app.specs.Check.{Checks};
 ghost use Rattle.rl_app.specs.Command.{form_of, plain_form, usage_line};
 ghost use Rattle.rl_app.specs.Gen.{GivesScript, SomeEach};
 ghost use Rattle.rl_app.specs.Serial.{IsReport};
@@ -11,10 +12,11 @@ ghost use Rattle.rl_app.specs.Serve.{Delivers, Serves, Writes, side};
 ghost use Rattle.rl_app.specs.Steps.{IsStepsReport};
 
 use crate::answer::{Status, deliver};
+use crate::checker::check;
 use crate::generator::{Sizes, gen_script, gen_sizes};
 use crate::serial::serial;
 use crate::steps::steps;
-use rl_base::limit::SCRIPT;
+use rl_base::limit::{CHECKED, SCRIPT};
 use rl_io::sink::Sink;
 use rl_io::source::Source;
 use std::alloc::Global;
@@ -28,6 +30,7 @@ pub const USAGE: &str =
 pub enum Form {
     Serial,
     Steps,
+    Check,
     /// `gen script`, with what is generated.
     GenScript(Sizes),
 }
@@ -54,6 +57,10 @@ pub fn rolis<S: Source, K: Sink>(
         (side S.left S.faults source.old source.new)
         (side K.held K.faults sink.old sink.new)
         result.code }
+    ensures check { form_of words.now ≡ Some Form.Check → Serves Checks CHECKED
+        (side S.left S.faults source.old source.new)
+        (side K.held K.faults sink.old sink.new)
+        result.code }
     ensures gen_script { (sizes : Sizes) → form_of words.now ≡ Some (Form.GenScript sizes) → (source.new ≡ source.old)
         × Writes (GivesScript sizes) (side K.held K.faults sink.old sink.new) result.code }
     ensures usage { form_of words.now ≡ None → (source.new ≡ source.old)
@@ -62,6 +69,7 @@ pub fn rolis<S: Source, K: Sink>(
     match form_of(words) {
         Some(Form::Serial) => serial(alloc, source, sink),
         Some(Form::Steps) => steps(alloc, source, sink),
+        Some(Form::Check) => check(alloc, source, sink),
         Some(Form::GenScript(sizes)) => gen_script(alloc, sizes, sink),
         None => deliver(sink, Status { code: 2 }, USAGE.as_bytes()),
     }
@@ -85,6 +93,7 @@ fn plain_form(word: &str) -> Option<Form>
     match word {
         "serial" => Some(Form::Serial),
         "steps" => Some(Form::Steps),
+        "check" => Some(Form::Check),
         _ => None,
     }
 }
