@@ -1,8 +1,9 @@
 #!/usr/bin/env bash
 # Runs the examples and compares what is printed. A script examples/NAME.rolis ends with status 0 by `serial` and by
 # `steps`, and NAME.COMMAND.out beside it is what the command prints. A script of examples/faults/ prints by both the
-# line of the file .out beside it, with the status of a fault or of a limit. Words that are no command print
-# examples/usage.out. A line for each difference; status 1 where there is one.
+# line of the file .out beside it, with the status of a fault or of a limit. A script with a report of
+# examples/checks/ prints by `check` the line of the file .out beside it, with the status of that line. Words that are
+# no command print examples/usage.out. A line for each difference; status 1 where there is one.
 set -u
 top=$(cd "$(dirname "$0")/.." && pwd)
 binary=$top/crates/rl_cli/out/rl_cli
@@ -49,6 +50,16 @@ for script in "$top"/examples/faults/*.rolis; do
   for command in serial steps; do
     check "$wanted" "$out" "$script" "$command"
   done
+done
+
+for input in "$top"/examples/checks/*.report; do
+  out=${input%.report}.out
+  case $(cut -d ' ' -f 1 "$out") in
+    yes) wanted=0 ;;
+    no) wanted=1 ;;
+    *) wanted=3 ;;
+  esac
+  check "$wanted" "$out" "$input" check
 done
 
 usage=$top/examples/usage.out
