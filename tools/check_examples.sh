@@ -2,8 +2,9 @@
 # Runs the examples and compares what is printed. A script examples/NAME.rolis ends with status 0 by `serial`, by
 # `steps` and by `sim`, and NAME.COMMAND.out beside it is what the command prints; a script of examples/runs/ by `sim`
 # alone. A script of examples/faults/ prints by all three the line of the file .out beside it, with the status of a fault
-# or of a limit. Two scripts that are written here pass the limits of a run by `sim`. Words that are no command print
-# examples/usage.out. A line for each difference; status 1 where there is one.
+# or of a limit. Two scripts that are written here pass the limits of a run by `sim`. A script with a report of
+# examples/checks/ prints by `check` the line of the file .out beside it, with the status of that line. Words that are
+# no command print examples/usage.out. A line for each difference; status 1 where there is one.
 set -u
 top=$(cd "$(dirname "$0")/.." && pwd)
 binary=$top/crates/rl_cli/out/rl_cli
@@ -79,6 +80,15 @@ awk 'BEGIN {
 }' >"$work/bytes"
 echo "limit bytes 268435456" >"$work/bytes.out"
 check 4 "$work/bytes.out" "$work/bytes" sim
+for input in "$top"/examples/checks/*.report; do
+  out=${input%.report}.out
+  case $(cut -d ' ' -f 1 "$out") in
+    yes) wanted=0 ;;
+    no) wanted=1 ;;
+    *) wanted=3 ;;
+  esac
+  check "$wanted" "$out" "$input" check
+done
 
 usage=$top/examples/usage.out
 script=$top/examples/two_transfers.rolis

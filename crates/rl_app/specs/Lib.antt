@@ -1,4 +1,5 @@
 pub mod Answers
+pub mod Check
 pub mod Command
 pub mod Gen
 pub mod Generating

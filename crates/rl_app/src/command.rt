@@ -4,6 +4,7 @@ ghost use Rattle.std.specs.Prelude.{◌≡◌, ◌⊎◌, ℕ, List, Some, None,
 ghost use Rattle.rl_app.specs.declared.command.Form.{Form};
 ghost use Rattle.rl_app.specs.Answers.{AnswersScript, Reports};
 ghost use Rattle.rl_app.specs.declared.generator.Sizes.{Sizes};
+ghost use Rattle.rl_app.specs.Check.{Checks};
 ghost use Rattle.rl_app.specs.Command.{form_of, gen_form, plain_form, usage_line};
 ghost use Rattle.rl_app.specs.Gen.{GivesRun, GivesScript, SomeEach};
 ghost use Rattle.rl_app.specs.Serial.{IsReport};
@@ -12,11 +13,12 @@ ghost use Rattle.rl_app.specs.Sim.{GivesWorld};
 ghost use Rattle.rl_app.specs.Steps.{IsStepsReport};
 
 use crate::answer::{Status, deliver};
+use crate::checker::check;
 use crate::generator::{Sizes, gen_run, gen_script, gen_sizes};
 use crate::serial::serial;
 use crate::sim::sim;
 use crate::steps::steps;
-use rl_base::limit::SCRIPT;
+use rl_base::limit::{CHECKED, SCRIPT};
 use rl_io::sink::Sink;
 use rl_io::source::Source;
 use std::alloc::Global;
@@ -31,20 +33,23 @@ pub enum Form {
     Serial,
     Steps,
     Sim,
+    Check,
     /// `gen script`, with what is generated.
     GenScript(Sizes),
     /// `gen run`, with what is generated.
     GenRun(Sizes),
 }
 
-/// Does all that the program does. The one word `serial`, `steps` or `sim` is the command of this name, and
-/// `gen script SEED NODES WORKERS REQUESTS` is another; all other words are status 2.
+/// Does all that the program does. The one word `serial`, `steps`, `sim` or `check` is the command of this
+/// name, and `gen script` or `gen run` with `SEED NODES WORKERS REQUESTS` behind it is another; all other
+/// words are status 2.
 ///
-/// Status 0 with the report, or the generated script; 2 where the words are no command; 3 where
-/// the input breaks a rule of the language; 4 where it has more than 4,194,304 bytes, or a limit of the
-/// language or of a run is passed; 5 where a read failed; 6 where a write failed, with a prefix of the text written; 7 where
-/// there was no memory. At 2, 3, 4, 5 and 7 the one line of the status is written. Where the words are
-/// no command, and by `gen`, nothing is read.
+/// Status 0 with the report, the verdict that a report is right, the generated script or the summary of
+/// its run; 1 with the first line of a report that is wrong, and why; 2 where the words are no command; 3
+/// where the input breaks a rule of the language; 4 where it has more than 4,194,304 bytes, of `check`
+/// 67,108,864, or where a limit of the language or of a run is passed; 5 where a read failed; 6 where a
+/// write failed, with a prefix of the text written; 7 where there was no memory. At 1, 2, 3, 4, 5 and 7 the
+/// one line of the status is written. Where the words are no command, and by `gen`, nothing is read.
 ///
 /// What `sim` reports is safe. For every script, whatever its steps, deliveries, losses, repeats,
 /// reorderings, elections and crashes, the released transactions in the order of their stamps are a prefix
@@ -69,6 +74,10 @@ pub fn rolis<S: Source, K: Sink>(
         (side S.left S.faults source.old source.new)
         (side K.held K.faults sink.old sink.new)
         result.code }
+    ensures check { form_of words.now ≡ Some Form.Check → Serves Checks CHECKED
+        (side S.left S.faults source.old source.new)
+        (side K.held K.faults sink.old sink.new)
+        result.code }
     ensures gen_script { (sizes : Sizes) → form_of words.now ≡ Some (Form.GenScript sizes) → (source.new ≡ source.old)
         × Writes (GivesScript sizes) (side K.held K.faults sink.old sink.new) result.code }
     ensures gen_run { (sizes : Sizes) → form_of words.now ≡ Some (Form.GenRun sizes) → (source.new ≡ source.old)
@@ -80,6 +89,7 @@ pub fn rolis<S: Source, K: Sink>(
         Some(Form::Serial) => serial(alloc, source, sink),
         Some(Form::Steps) => steps(alloc, source, sink),
         Some(Form::Sim) => sim(alloc, source, sink),
+        Some(Form::Check) => check(alloc, source, sink),
         Some(Form::GenScript(sizes)) => gen_script(alloc, sizes, sink),
         Some(Form::GenRun(sizes)) => gen_run(alloc, sizes, sink),
         None => deliver(sink, Status { code: 2 }, USAGE.as_bytes()),
@@ -118,6 +128,7 @@ fn plain_form(word: &str) -> Option<Form>
         "serial" => Some(Form::Serial),
         "steps" => Some(Form::Steps),
         "sim" => Some(Form::Sim),
+        "check" => Some(Form::Check),
         _ => None,
     }
 }

@@ -2,6 +2,7 @@
 #![tactic(auto)]
 
 pub mod answer;
+pub mod checker;
 pub mod command;
 pub mod generator;
 mod input;

@@ -3,5 +3,8 @@ pub mod InputLemmas
 pub mod ItemLemmas
 pub mod LineCounts
 pub mod LiveLemmas
+pub mod Names
 pub mod NodeLemmas
+pub mod OneVerdict
 pub mod RerunLemmas
+pub mod RightLemmas

@@ -1,6 +1,6 @@
 //! The input of a check: a script, a line `report`, and a report.
 
-ghost use Rattle.std.specs.Prelude.{◌≡◌, ◌<◌, ◌-◌, ◌^◌, IfNone, length};
+ghost use Rattle.std.specs.Prelude.{◌≡◌, ◌<◌, ◌≤◌, ◌-◌, ◌^◌, IfNone, IfSome, length};
 ghost use Rattle.std.specs.Option.{option_map};
 ghost use Rattle.rl_text.specs.Text.{lines_of};
 ghost use Rattle.rl_check.specs.Inputs.{script_part, report_part};
@@ -27,6 +27,8 @@ pub fn parts_of(input: &[u8]) -> Parts
     ensures script { result.script.now ≡ script_part input.now }
     ensures report { option_map (λ report. report.now) result.report ≡ report_part input.now }
     ensures lines { IfNone result.report (result.lines ≡ length (lines_of input.now)) }
+    ensures few { result.lines ≤ length input.now }
+    ensures shorter { IfSome result.report (λ report. length report.now ≤ length input.now) }
 {
     let mut lines = 0;
     let mut rest = input;

@@ -3,6 +3,7 @@
 
 pub mod check;
 pub mod input;
+pub mod laws;
 mod nodes;
 mod rerun;
 mod rows;

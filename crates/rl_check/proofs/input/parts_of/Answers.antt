@@ -49,3 +49,12 @@ pub returns-clause-lines : goal.returns-clause-lines
 returns-clause-lines c =
     let none : length c.lines.rest.now ≡ 0 = grind (arith, nat_tests, c.lines-test.false, c.is_empty.ensures) in
     c.lines.invariant.2 ∙ count_whole c.args.input.now c.lines.invariant.0 c.lines.rest.now c.lines.invariant.1 none
+
+pub returns-then-eq-clause-few : goal.returns-then-eq-clause-few
+returns-then-eq-clause-few c = omega (arith, c.lines.invariant.1.within, c.lines.invariant.2)
+
+pub returns-then-eq-clause-shorter : goal.returns-then-eq-clause-shorter
+returns-then-eq-clause-shorter c = omega (arith, c.lines.invariant.1.within, c.first_line.ensures.shorter)
+
+pub returns-clause-few : goal.returns-clause-few
+returns-clause-few c = omega (arith, c.lines.invariant.1.within, c.lines.invariant.2)
