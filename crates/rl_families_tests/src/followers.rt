@@ -6,6 +6,7 @@ ghost use Rattle.rl_replay.specs.Standing.{BeginsWithPlayed};
 ghost use Rattle.rl_families_tests.specs.Follows.{Follows};
 
 use crate::arrivals::Arrivals;
+use rl_base::bound::Bound;
 use rl_base::memory::Memory;
 use rl_cut::family::{ExtendError, Family};
 use rl_replay::laws::logs_grow;
@@ -26,6 +27,18 @@ pub fn new_pair(alloc: Global, streams: u32, known: u32) -> Result<(Family, Repl
     let schema = Schema::new(alloc);
     let replica = Replica::new(alloc, &schema, &Map::new(alloc), streams)?;
     Ok((family, replica))
+}
+
+/// Makes the next batches that arrive, and drops them. Answers how many they were.
+pub fn made(alloc: Global, streams: u32, batches: u32) -> Result<usize, ExtendError>
+    requires some { 0 < streams }
+    requires few { streams ≤ 16 }
+{
+    let mut arrivals = Arrivals::new(alloc, streams, 1)?;
+    for _batch in 0..batches {
+        arrivals.next(alloc, 8, 500)?;
+    }
+    Ok(batches as usize)
 }
 
 /// Takes the next batches that arrive up into a family. Answers how many items its history has then.
@@ -97,7 +110,7 @@ pub fn play_all(
 }
 
 /// Plays a stream up to the watermark.
-fn play_stream(
+pub fn play_stream(
     alloc: Global,
     replica: &mut Replica,
     family: &Family,
@@ -110,38 +123,48 @@ fn play_stream(
     ensures { Follows known replica.new family.now }
 {
     for _entry in 0..u64::MAX {
-        if !play_next(alloc, replica, family, known, stream)? {
+        let Some(bound) = next_bound(replica, family, known, stream) else {
+            return Ok(());
+        };
+        if !goes_on(play(alloc, replica, family, known, stream, bound)?) {
             return Ok(());
         }
     }
     Ok(())
 }
 
-/// Plays the next entry of a stream, unless it is above the watermark. Answers whether it was played.
-fn play_next(
+/// The bound of the epoch of the next entry of a stream.
+fn next_bound(replica: &Replica, family: &Family, known: u32, stream: u32) -> Option<Bound>
+    requires first_stream { 1 ≤ stream }
+    requires last_stream { stream ≤ length family.now }
+    requires follows { Follows known replica.now family.now }
+{
+    let epoch = replica.next_epoch_of(stream, family.log(stream), known)?;
+    Some(family.bound(epoch))
+}
+
+/// Plays the next entry of a stream.
+fn play(
     alloc: Global,
     replica: &mut Replica,
     family: &Family,
     known: u32,
     stream: u32,
-) -> Result<bool, Memory>
+    bound: Bound,
+) -> Result<Played, Memory>
     requires first_stream { 1 ≤ stream }
     requires last_stream { stream ≤ length family.now }
     requires follows { Follows known replica.old family.now }
     ensures { Follows known replica.new family.now }
 {
-    let log = family.log(stream);
-    let Some(epoch) = replica.next_epoch_of(stream, log, known) else {
-        return Ok(false);
-    };
-    let bound = family.bound(epoch);
-    match replica.play(alloc, stream, log, known, bound, family.watermark().1)? {
-        Played::Applied { stamp: _ } => Ok(true),
-        Played::Passed { stamp: _ } => Ok(true),
-        Played::Above {
-            next: _,
-            watermark: _,
-        } => Ok(false),
-        Played::Empty => Ok(false),
-    }
+    let (_, seq) = family.watermark();
+    replica.play(alloc, stream, family.log(stream), known, bound, seq)
+}
+
+/// Whether an entry was played that another may follow.
+fn goes_on(played: Played) -> bool {
+    matches!(
+        played,
+        Played::Applied { stamp: _ } | Played::Passed { stamp: _ }
+    )
 }

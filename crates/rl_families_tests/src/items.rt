@@ -1,11 +1,10 @@
 //! Items for tests.
 
-ghost use Rattle.std.specs.Prelude.{◌≡◌, length, IfOk};
+ghost use Rattle.std.specs.Prelude.{◌≡◌};
 
 use rl_base::list::Seq;
-use rl_base::memory::Memory;
 use rl_base::stamp::Stamp;
-use rl_txn::item::{Item, Items};
+use rl_txn::item::Item;
 use rl_txn::write::{End, Reply, Writes};
 use std::alloc::Global;
 
@@ -23,13 +22,4 @@ pub fn item(alloc: Global, stamp: Stamp, writes: Writes) -> Item
         },
         writes,
     }
-}
-
-/// One item that writes nothing.
-pub fn only(alloc: Global, stamp: Stamp) -> Result<Items, Memory>
-    ensures { IfOk result (λ items. length items ≡ 1) }
-{
-    let mut items = Items::new(alloc);
-    items.push(item(alloc, stamp, Seq::new(alloc)))?;
-    Ok(items)
 }

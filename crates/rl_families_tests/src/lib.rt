@@ -3,10 +3,12 @@
 #![tactic(auto)]
 
 pub mod arrivals;
+#[cfg(test)]
+mod families;
 pub mod followers;
 mod items;
 #[cfg(test)]
-mod logs;
+mod ones;
 #[cfg(test)]
 mod plays;
 #[cfg(test)]

@@ -1,5 +1,5 @@
 use Rattle.std.proofs.Common.{◌≡◌, length}
-use Rattle.rl_families_tests.proofs.yardstick.drawn.Given as goal
+use Rattle.rl_families_tests.proofs.families.follow.Given as goal
 
 abbrev pub invariant-loop-step : goal.invariant-loop-step
 invariant-loop-step g l = length l.family ≡ 3
