@@ -3,8 +3,8 @@
 # `steps` and by `sim`, and NAME.COMMAND.out beside it is what the command prints; a script of examples/runs/ by `sim`
 # alone. A script of examples/faults/ prints by all three the line of the file .out beside it, with the status of a fault
 # or of a limit. Two scripts that are written here pass the limits of a run by `sim`. A script with a report of
-# examples/checks/ prints by `check` the line of the file .out beside it, with the status of that line. Words that are
-# no command print examples/usage.out. A line for each difference; status 1 where there is one.
+# examples/checks/ prints by `check` the line of the file .out beside it, with the status of that line. The run of a
+# generated script prints examples/generated_run.out. Words that are no command print examples/usage.out. A line for each difference; status 1 where there is one.
 set -u
 top=$(cd "$(dirname "$0")/.." && pwd)
 binary=$top/crates/rl_cli/out/rl_cli
@@ -89,6 +89,8 @@ for input in "$top"/examples/checks/*.report; do
   esac
   check "$wanted" "$out" "$input" check
 done
+
+check 0 "$top/examples/generated_run.out" /dev/null gen run 7 3 4 1000
 
 usage=$top/examples/usage.out
 script=$top/examples/two_transfers.rolis
