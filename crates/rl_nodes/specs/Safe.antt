@@ -32,14 +32,15 @@ pub record ReplicaIsSafe (setup : Setup) (history : List Item) (x : NodeState) :
   pub applied : (item : Item) → Contains x.replica.applied item → Contains (known_history setup x) item
   pub rows : IsTrue (is_at_watermark setup x) → x.replica.rows ≡ rows_after setup.program.rows (known_history setup x)
 
--- an opening list begins the history, and each history from which a leader of an earlier epoch releases begins the opening list
+-- what a leader opened with begins the history, and each history from which a leader of an earlier epoch had released begins what it
+-- opened with; a leader that never opened, or released nothing, is not spoken of
 pub record OpeningIsSafe (gave : List Given) (history : List Item) (o : Opened) : Type 0 where
   pub begins : IsPrefix o.items history
   pub earlier : (g : Given) → Contains gave g → g.epoch < o.epoch → IsPrefix g.history o.items
 
 -- all that is promised of a world
 pub record Safe (setup : Setup) (w : World) : Type 0 where
-  -- the longest chosen log of each stream: there is but one
+  -- the longest chosen log of each stream: there is but one; a quorum once acked it, though a node that is lost has it no more
   pub chosen : ℕ → bytes.Log
   pub are_chosen : AreChosen setup w chosen
   -- one thread could have run that history, each worker's requests in order and none twice
