@@ -22,7 +22,11 @@ const ANSWERS: [(&str, u8, &str); 11] = [
     ("script 0 8 17 2001", 4, "limit nodes 7\n"),
     ("script 0 7 17 2001", 4, "limit workers 16\n"),
     ("script 0 7 16 2001", 4, "limit requests 2000\n"),
-    ("script 0 1 1 18446744073709551615", 4, "limit requests 2000\n"),
+    (
+        "script 0 1 1 18446744073709551615",
+        4,
+        "limit requests 2000\n",
+    ),
     ("script 0 0 1 1", 2, USAGE),
     ("script 4294967296 1 1 1", 2, USAGE),
     ("script 0 1 1", 2, USAGE),
