@@ -9,8 +9,8 @@
 --     A leader. Turns: a worker's turn is one of the core. Proposals, Flushes: what is pending is proposed; Ranges: in
 -- the range of batches. Keeps: what a leader keeps of a stream stays true through both. Steps, Marks, Idles: a step of a
 -- worker, and the mark of an idle one; Requests: where a worker of the code stands; NoLeaders: a node that is no open
--- leader. Acked, Advancing, Histories, Opens, Opened: an Ack, what it releases, and how a leader opens. LeadersTurns: the
--- leader is taken out of its node, works, and is put back.
+-- leader. Acked, Advancing, Histories, Opens, Opened: an Ack, what it releases, and how a leader opens. LeadersTurns: a
+-- part of a node works, and the node does what its part did.
 pub mod Acceptors
 pub mod Acked
 pub mod Advancing

@@ -128,18 +128,14 @@ repeats_due setup due n f some a x s = record {
       subst P (sym (failed_is setup a n x s ∙ some)) (refl, refl);
 }
 
--- a call that answers what it was to note
-pub notes_done : (setup : Setup) (due : ℕ → NodeState → Answer) (n n' n2 : Node) (answer result : Result Out NodeError)
-    → None ≡ failed_in n.phase → TriesDue setup due n n' answer → n2 ≡ noted n' answer → result ≡ answer → DoesDue setup due n n2 result
-notes_done setup due n n' n2 answer result none t e same =
-    subst (λ m. DoesDue setup due n m result) (sym e)
-    (subst (DoesDue setup due n (noted n' answer)) (sym same) (does_due setup due n n' (sym none) answer t))
+-- a call that notes its answer
+pub notes_done : (setup : Setup) (due : ℕ → NodeState → Answer) (n n' n2 : Node) (answer : Result Out NodeError)
+    → None ≡ failed_in n.phase → TriesDue setup due n n' answer → n2 ≡ noted n' answer → DoesDue setup due n n2 answer
+notes_done setup due n n' n2 answer none t e = subst (λ m. DoesDue setup due n m answer) (sym e) (does_due setup due n n' (sym none) answer t)
 
-pub notes_refused : (setup : Setup) (due : ℕ → NodeState → Answer) (n n' n2 : Node) (answer result : Result Out NodeError)
-    → None ≡ failed_in n.phase → TriesDue setup due n n' answer → n2 ≡ noted n' answer → result ≡ answer → RefusesDue setup due n n2 result
-notes_refused setup due n n' n2 answer result none t e same =
-    subst (λ m. RefusesDue setup due n m result) (sym e)
-    (subst (RefusesDue setup due n (noted n' answer)) (sym same) (refuses_due setup due n n' (sym none) answer t))
+pub notes_refused : (setup : Setup) (due : ℕ → NodeState → Answer) (n n' n2 : Node) (answer : Result Out NodeError)
+    → None ≡ failed_in n.phase → TriesDue setup due n n' answer → n2 ≡ noted n' answer → RefusesDue setup due n n2 answer
+notes_refused setup due n n' n2 answer none t e = subst (λ m. RefusesDue setup due n m answer) (sym e) (refuses_due setup due n n' (sym none) answer t)
 
 -- it runs out of memory where nothing has changed
 pub fails_still : (setup : Setup) (a : ℕ) (n : Node) (x : NodeState) → is_running n ≡ true → Stands setup a n (well x)

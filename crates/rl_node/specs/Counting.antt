@@ -1,5 +1,5 @@
 -- What a leader does with an Ack, step by step. No public contract cites it.
-use Rattle.std.specs.Prelude.{◌≡◌, ℕ, ◌-◌, List, [], length, if◌then◌else◌, Option, Ok, slice_set}
+use Rattle.std.specs.Prelude.{◌≡◌, ◌≤◌, ⊤, ℕ, ◌-◌, List, [], length, if◌then◌else◌, Option, Ok, slice_set}
 use Rattle.rl_msg.specs.declared.msg.Msg.{Msg}
 use Rattle.rl_paxos.specs.Leaders.{with_ack}
 use Rattle.rl_txn.specs.declared.item.Item.{Item}
@@ -15,6 +15,8 @@ use Rattle.rl_node.specs.Standing.{HasWorksOf, lead_with}
 use Rattle.rl_node.specs.declared.answer.Out.{Out}
 use Rattle.rl_node.specs.declared.answer.Sent.{Sent}
 use Rattle.rl_node.specs.declared.part.Lead as leads
+use Rattle.rl_node.specs.declared.part.Part as parts
+use Rattle.rl_node.specs.declared.part.Part.TheVariants as part
 
 -- what is due for an Ack at a leader
 abbrev pub count_in : Setup → (a : ℕ) → NodeState → (s from len : ℕ) → Part → Did
@@ -30,6 +32,11 @@ advanced setup x before lead sends =
     if has_opened lead then releases x before lead sends
     else if marks_are_acknowledged lead then opens setup x lead sends
     else sending (record x { part = Leads lead }) sends
+
+-- an Ack is of no more than the leader of its epoch has of the stream
+abbrev pub IsWithinLead : parts.Part → (e s len : ℕ) → Type 0
+IsWithinLead (part.Leads l) e s len = l.epoch ≡ e → len ≤ length (stream_of l s).log
+IsWithinLead other e s len = ⊤
 
 -- an Ack is counted in its stream
 pub record HasCounted (old new : leads.Lead) (s from len : ℕ) : Type 0 where

@@ -16,6 +16,7 @@ pub mod Moves
 pub mod Named
 pub mod Opening
 pub mod Outs
+pub mod Parts
 pub mod Playing
 pub mod Proposing
 pub mod Receiving
@@ -29,5 +30,4 @@ pub mod Showing
 pub mod Standing
 pub mod Stepping
 pub mod Taken
-pub mod Taking
 pub mod Wrong

@@ -1,13 +1,12 @@
--- A part that is taken out of a node. No public contract cites it.
+-- A candidate that is taken out of a node. No public contract cites it.
 use Rattle.std.specs.Prelude.{◌≡◌, ℕ, ◌==◌, if◌then◌else◌, Bool, false, Option, Some, None}
 use Rattle.rl_paxos.specs.Recovery.{Candidate}
 use Rattle.rl_node.specs.Changing.{with_part}
 use Rattle.rl_node.specs.declared.node.Node.{Node}
 use Rattle.rl_node.specs.declared.node.Phase.{Phase}
 use Rattle.rl_node.specs.declared.node.Phase.TheVariants.{Up}
-use Rattle.rl_node.specs.declared.part.Lead.{Lead}
 use Rattle.rl_node.specs.declared.part.Part.{Part}
-use Rattle.rl_node.specs.declared.part.Part.TheVariants.{Follows, Stands, Leads}
+use Rattle.rl_node.specs.declared.part.Part.TheVariants.{Follows, Stands}
 use Rattle.rl_node.specs.declared.running.Running.{Running}
 
 -- the part of a node that was up is taken out, and it follows
@@ -24,14 +23,10 @@ pub record HasKept (old new : Node) (test : Part → Bool) : Type 0 where
   pub other : test running.part ≡ false
   pub same : new ≡ old
 
--- whether a part is the candidate of an epoch, or its leader
+-- whether a part is the candidate of an epoch
 abbrev pub is_candidate : (e : ℕ) → Part → Bool
 is_candidate e (Stands c) = c.epoch == e
 is_candidate e other = false
-
-abbrev pub is_lead : (e : ℕ) → Part → Bool
-is_lead e (Leads l) = l.epoch == e
-is_lead e other = false
 
 -- the candidate of an epoch that a part is, if it is one, and the part without it
 abbrev pub candidate_of : (e : ℕ) → Part → Option Candidate
@@ -51,29 +46,7 @@ abbrev pub without_candidate_in : (e : ℕ) → Phase → Phase
 without_candidate_in e (Up r) = Up (record r { part = without_candidate e r.part })
 without_candidate_in e other = other
 
--- and of its leader
-abbrev pub lead_of : (e : ℕ) → Part → Option Lead
-lead_of e (Leads l) = if l.epoch == e then Some l else None
-lead_of e other = None
-
-abbrev pub without_lead : (e : ℕ) → Part → Part
-without_lead e (Leads l) = if l.epoch == e then Follows else Leads l
-without_lead e other = other
-
-abbrev pub lead_in : (e : ℕ) → Phase → Option Lead
-lead_in e (Up r) = lead_of e r.part
-lead_in e other = None
-
-abbrev pub without_lead_in : (e : ℕ) → Phase → Phase
-without_lead_in e (Up r) = Up (record r { part = without_lead e r.part })
-without_lead_in e other = other
-
 -- of a node, the candidate of an epoch is taken out, where there is one
 abbrev pub GivesCandidate : (old new : Node) → (e : ℕ) → Option Candidate → Type 0
 GivesCandidate old new e (Some c) = HasGiven old new (Stands c) × (c.epoch ≡ e)
 GivesCandidate old new e None = HasKept old new (is_candidate e)
-
--- the same of its leader
-abbrev pub GivesLead : (old new : Node) → (e : ℕ) → Option Lead → Type 0
-GivesLead old new e (Some l) = HasGiven old new (Leads l) × (l.epoch ≡ e)
-GivesLead old new e None = HasKept old new (is_lead e)

@@ -45,7 +45,8 @@ impl Node {
     {
         self.check()?;
         let answer = self.stand(alloc, setup);
-        self.note(answer)
+        self.note(&answer);
+        answer
     }
 
     fn stand(&mut self, alloc: Global, setup: &Setup) -> Result<Out, NodeError>
@@ -114,7 +115,8 @@ impl Node {
     {
         self.check()?;
         let answer = self.resend(alloc, setup);
-        self.note(answer)
+        self.note(&answer);
+        answer
     }
 
     fn resend(&self, alloc: Global, setup: &Setup) -> Result<Out, NodeError>

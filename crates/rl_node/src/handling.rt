@@ -38,7 +38,8 @@ impl Node {
     {
         self.check()?;
         let answer = self.receive(alloc, setup, bytes);
-        self.note(answer)
+        self.note(&answer);
+        answer
     }
 
     /// Takes the message that some bytes are.

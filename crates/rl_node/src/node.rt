@@ -141,14 +141,12 @@ impl Node {
     }
 
     /// Notes an answer that it repeats until it crashes.
-    pub(crate) fn note(&mut self, answer: Result<Out, NodeError>) -> Result<Out, NodeError>
-        ensures node { self.new ≡ noted self.old answer }
-        ensures answer { result ≡ answer }
+    pub(crate) fn note(&mut self, answer: &Result<Out, NodeError>)
+        ensures { self.new ≡ noted self.old answer.now }
     {
-        if let Err(e) = &answer {
+        if let Err(e) = answer {
             self.note_error(*e);
         }
-        answer
     }
 
     /// Notes a refusal that it repeats until it crashes.

@@ -10,20 +10,19 @@ ghost use Rattle.rl_node.specs.Doing.{DoesDue, RefusesDue};
 ghost use Rattle.rl_node.specs.Fits.{IsStream};
 ghost use Rattle.rl_node.specs.Inner.{well, TriesDue, noted};
 ghost use Rattle.rl_node.specs.Moves.{out_of, Tells};
-ghost use Rattle.rl_node.specs.Seqs.{seq_of};
+ghost use Rattle.rl_node.specs.Parts.{PartTriesDue};
+ghost use Rattle.rl_node.specs.Seqs.{seq_of, seq_of_part};
 ghost use Rattle.rl_node.specs.SetupOf.{setup_of};
-ghost use Rattle.rl_node.specs.Standing.{Stands, IsNode, is_running};
-ghost use Rattle.rl_node.specs.Taking.{leader_of, leader_in, without_leader, without};
+ghost use Rattle.rl_node.specs.Standing.{Stands, StandsPart, IsNode, IsPart, is_running};
 
 use crate::answer::{Out, Sends, Stepped, sending};
 use crate::node::{Node, Phase};
-use crate::part::{Lead, Part};
+use crate::part::Part;
 use crate::running::Running;
 use crate::setup::Setup;
 use crate::stepping::no_step;
 use rl_nodes::node_error::NodeError;
 use std::alloc::Global;
-use std::mem;
 
 impl Node {
     /// The next seq of its workers; 2 where it is no open leader.
@@ -62,7 +61,8 @@ impl Node {
     {
         self.check()?;
         let answer = self.make_step(alloc, setup, worker);
-        self.note_step(answer)
+        self.note_step(&answer);
+        answer
     }
 
     fn make_step(&mut self, alloc: Global, setup: &Setup, worker: u32) -> Result<Stepped, NodeError>
@@ -77,23 +77,19 @@ impl Node {
             → IfOk result (Tells setup a x worker) }
         ensures up { is_running self.new ≡ true }
     {
-        let Some(mut lead) = self.take_leader() else {
-            return Ok(no_step(alloc));
+        let Phase::Up(Running { part, .. }) = &mut self.phase else {
+            unreachable!()
         };
-        let stepped = lead.step(alloc, self.id, setup, worker)?;
-        self.set_part(Part::Leads(lead));
-        Ok(stepped)
+        part.step(alloc, self.id, setup, worker)
     }
 
     /// Notes the refusal of a step that it repeats until it crashes.
-    fn note_step(&mut self, answer: Result<Stepped, NodeError>) -> Result<Stepped, NodeError>
-        ensures node { self.new ≡ noted self.old (out_of answer) }
-        ensures answer { result ≡ answer }
+    fn note_step(&mut self, answer: &Result<Stepped, NodeError>)
+        ensures { self.new ≡ noted self.old (out_of answer.now) }
     {
-        if let Err(e) = &answer {
+        if let Err(e) = answer {
             self.note_error(*e);
         }
-        answer
     }
 
     /// An open leader proposes the pending items of a worker, where there are any; any other node does nothing.
@@ -111,7 +107,8 @@ impl Node {
     {
         self.check()?;
         let answer = self.flush_worker(alloc, setup, worker);
-        self.note(answer)
+        self.note(&answer);
+        answer
     }
 
     fn flush_worker(&mut self, alloc: Global, setup: &Setup, worker: u32) -> Result<Out, NodeError>
@@ -123,12 +120,10 @@ impl Node {
             TriesDue setup (λ a x. flushes setup a x worker) self.old self.new result }
         ensures up { is_running self.new ≡ true }
     {
-        let Some(mut lead) = self.take_leader() else {
-            return Ok(sending(alloc, Sends::new(alloc)));
+        let Phase::Up(Running { part, .. }) = &mut self.phase else {
+            unreachable!()
         };
-        let out = lead.flush(alloc, self.id, setup, worker)?;
-        self.set_part(Part::Leads(lead));
-        Ok(out)
+        part.flush(alloc, self.id, setup, worker)
     }
 
     /// An open leader proposes an idle mark of a worker, or the end mark where that has no request left. It does nothing
@@ -148,7 +143,8 @@ impl Node {
     {
         self.check()?;
         let answer = self.idle_worker(alloc, setup, worker);
-        self.note(answer)
+        self.note(&answer);
+        answer
     }
 
     fn idle_worker(&mut self, alloc: Global, setup: &Setup, worker: u32) -> Result<Out, NodeError>
@@ -161,38 +157,88 @@ impl Node {
             TriesDue setup (λ a x. idles setup a x worker) self.old self.new result }
         ensures up { is_running self.new ≡ true }
     {
-        let Some(mut lead) = self.take_leader() else {
-            return Ok(sending(alloc, Sends::new(alloc)));
+        let Phase::Up(Running { part, .. }) = &mut self.phase else {
+            unreachable!()
         };
-        let out = lead.idle(alloc, self.id, setup, worker)?;
-        self.set_part(Part::Leads(lead));
-        Ok(out)
-    }
-
-    /// Takes its leader out of it, if it leads. It follows then.
-    pub(crate) fn take_leader(&mut self) -> Option<Lead>
-        ensures leader { result ≡ leader_in self.old.phase }
-        ensures without { self.new ≡ without self.old }
-    {
-        let Phase::Up(running) = &mut self.phase else {
-            return None;
-        };
-        running.take_leader()
+        part.idle(alloc, self.id, setup, worker)
     }
 }
 
-impl Running {
-    /// Takes the leader that its part is out of it, if it is one.
-    fn take_leader(&mut self) -> Option<Lead>
-        ensures leader { result ≡ leader_of self.old.part }
-        ensures without { self.new ≡ record self.old { part = without_leader self.old.part } }
+impl Part {
+    /// An open leader makes a step of a worker; any other part does nothing. After a refusal it follows.
+    fn step(
+        &mut self,
+        alloc: Global,
+        id: u32,
+        setup: &Setup,
+        worker: u32,
+    ) -> Result<Stepped, NodeError>
+        requires setup { SetupFits (setup_of setup.now) }
+        requires first { 1 ≤ id }
+        requires last { id ≤ (setup_of setup.now).nodes }
+        requires part { IsPart (setup_of setup.now) self.old }
+        requires worker { IsStream (setup_of setup.now) worker }
+        requires next { seq_of_part self.old < 2 ^ 40 - 1 }
+        ensures tries { let setup = setup_of setup.now in
+            PartTriesDue setup (λ x. steps setup id x worker) self.old self.new (out_of result) }
+        ensures told { let setup = setup_of setup.now in (x : NodeState) → StandsPart setup self.old x.part
+            → IfOk result (Tells setup id x worker) }
     {
-        match mem::replace(&mut self.part, Part::Follows) {
-            Part::Leads(lead) => Some(lead),
-            other => {
-                self.part = other;
-                None
-            }
+        let Part::Leads(lead) = self else {
+            return Ok(no_step(alloc));
+        };
+        let answer = lead.step(alloc, id, setup, worker);
+        if answer.is_err() {
+            *self = Part::Follows;
         }
+        answer
+    }
+
+    /// An open leader proposes the pending items of a worker; any other part does nothing. After a refusal it follows.
+    fn flush(
+        &mut self,
+        alloc: Global,
+        id: u32,
+        setup: &Setup,
+        worker: u32,
+    ) -> Result<Out, NodeError>
+        requires setup { SetupFits (setup_of setup.now) }
+        requires first { 1 ≤ id }
+        requires last { id ≤ (setup_of setup.now).nodes }
+        requires part { IsPart (setup_of setup.now) self.old }
+        requires worker { IsStream (setup_of setup.now) worker }
+        ensures { let setup = setup_of setup.now in
+            PartTriesDue setup (λ x. flushes setup id x worker) self.old self.new result }
+    {
+        let Part::Leads(lead) = self else {
+            return Ok(sending(alloc, Sends::new(alloc)));
+        };
+        let answer = lead.flush(alloc, id, setup, worker);
+        if answer.is_err() {
+            *self = Part::Follows;
+        }
+        answer
+    }
+
+    /// An open leader proposes an idle mark or the end mark of a worker where it may; any other part does nothing. After a
+    /// refusal it follows.
+    fn idle(&mut self, alloc: Global, id: u32, setup: &Setup, worker: u32) -> Result<Out, NodeError>
+        requires setup { SetupFits (setup_of setup.now) }
+        requires first { 1 ≤ id }
+        requires last { id ≤ (setup_of setup.now).nodes }
+        requires part { IsPart (setup_of setup.now) self.old }
+        requires worker { IsStream (setup_of setup.now) worker }
+        requires next { seq_of_part self.old < 2 ^ 40 - 1 }
+        ensures { let setup = setup_of setup.now in
+            PartTriesDue setup (λ x. idles setup id x worker) self.old self.new result }
+    {
+        let Part::Leads(lead) = self else {
+            return Ok(sending(alloc, Sends::new(alloc)));
+        };
+        let answer = lead.idle(alloc, id, setup, worker);
+        if answer.is_err() {
+            *self = Part::Follows;
+        }
+        answer
     }
 }

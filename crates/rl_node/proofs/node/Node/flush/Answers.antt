@@ -11,11 +11,11 @@ returns-in_err-check-clause-refused c =
 pub returns-clause-done : goal.returns-clause-done
 returns-clause-done c =
     let setup = setup_of c.args.setup.now in
-    notes_done setup (λ a x. flushes setup a x c.args.worker) c.args.self.now c.flush_worker-answer.new.self c.note.new.self c.flush_worker-answer.result c.note.result
-    c.in_ok-check.ensures c.flush_worker-answer.ensures.tries c.note.ensures.node c.note.ensures.answer
+    notes_done setup (λ a x. flushes setup a x c.args.worker) c.args.self.now c.flush_worker-answer.new.self c.note.new.self c.flush_worker-answer.result
+    c.in_ok-check.ensures c.flush_worker-answer.ensures.tries c.note.ensures
 
 pub returns-clause-refused : goal.returns-clause-refused
 returns-clause-refused c =
     let setup = setup_of c.args.setup.now in
-    notes_refused setup (λ a x. flushes setup a x c.args.worker) c.args.self.now c.flush_worker-answer.new.self c.note.new.self c.flush_worker-answer.result c.note.result
-    c.in_ok-check.ensures c.flush_worker-answer.ensures.tries c.note.ensures.node c.note.ensures.answer
+    notes_refused setup (λ a x. flushes setup a x c.args.worker) c.args.self.now c.flush_worker-answer.new.self c.note.new.self c.flush_worker-answer.result
+    c.in_ok-check.ensures c.flush_worker-answer.ensures.tries c.note.ensures

@@ -1,57 +1,19 @@
-use Rattle.std.proofs.Common.{◌∙◌, [], Ok, refl, sym, ap, subst, arith}
-use Rattle.std.specs.Prelude.{◌==◌, if◌then◌else◌, length, Err}
-use Rattle.rl_nodes.specs.Answers.{quiet}
-use Rattle.rl_nodes.specs.Nodes.{pending_of}
-use Rattle.rl_nodes.specs.Works.{proposes_items, flushes}
-use Rattle.rl_node.specs.Changing.{with_part}
-use Rattle.rl_node.specs.Leads.{LeadTries}
-use Rattle.rl_node.specs.Outs.{Adds}
+use Rattle.rl_nodes.specs.Works.{flushes}
 use Rattle.rl_node.specs.SetupOf.{setup_of}
-use Rattle.rl_node.specs.declared.part.Part.TheVariants.{Leads}
-use Rattle.rl_node.proofs.LeadersTurns.{leads_some, first_id, last_id, up_without, up_with, works_quiet, leader_stands, works_done, works_failed, number_is}
+use Rattle.rl_node.proofs.Elections.{is_part}
+use Rattle.rl_node.proofs.LeadersTurns.{first_id, last_id, works_as}
 use Rattle.rl_node.proofs.node.Node.flush_worker.Goals as goal
 
 pub flush-requires-clause-first : goal.flush-requires-clause-first
-flush-requires-clause-first c = first_id (setup_of c.args.setup.now) c.args.self.now c.take_leader.new.self c.requires.node c.take_leader.ensures.without
+flush-requires-clause-first c = first_id (setup_of c.args.setup.now) c.args.self.now c.requires.node
 
 pub flush-requires-clause-last : goal.flush-requires-clause-last
-flush-requires-clause-last c = last_id (setup_of c.args.setup.now) c.args.self.now c.take_leader.new.self c.requires.node c.take_leader.ensures.without
+flush-requires-clause-last c = last_id (setup_of c.args.setup.now) c.args.self.now c.requires.node
 
-pub flush-requires-clause-stands : goal.flush-requires-clause-stands
-flush-requires-clause-stands c = leads_some (setup_of c.args.setup.now) c.args.self.now c.requires.node c.in-Some.lead c.in-Some.ensures.leader
-
-pub returns-in_default-clause-tries : goal.returns-in_default-clause-tries
-returns-in_default-clause-tries c = λ a x s.
-    let setup = setup_of c.args.setup.now in
-    let w = c.args.worker in
-    works_quiet setup a c.args.self.now x s c.requires.up c.in_default.ensures.leader c.take_leader.new.self c.take_leader.ensures.without
-    (λ lead core. if length (pending_of lead w) == 0 then Ok (quiet x) else proposes_items setup a x lead w (pending_of lead w)) c.sending.result
-    (c.sending.ensures [] (subst (λ sends. Adds [] sends []) (sym c.new.ensures) (record { sends = refl; in_range = λ k d less. absurd (omega (arith, less)) })))
-
-pub returns-in_default-clause-up : goal.returns-in_default-clause-up
-returns-in_default-clause-up c = up_without c.args.self.now c.take_leader.new.self c.requires.up c.take_leader.ensures.without
-
-pub returns-in_err-out-clause-tries : goal.returns-in_err-out-clause-tries
-returns-in_err-out-clause-tries c = λ a x s.
-    let setup = setup_of c.args.setup.now in
-    let n = c.args.self.now in
-    let m = c.take_leader.new.self in
-    works_failed setup a n x s c.requires.up c.in-Some.lead c.in-Some.ensures.leader (flushes setup a x c.args.worker) c.in_err-out.field-0.0 m c.take_leader.ensures.without
-    (subst (λ k. LeadTries setup c.flush.new.self x (flushes setup k x c.args.worker) (Err c.in_err-out.field-0.0)) (number_is setup a n x s c.requires.up m c.take_leader.ensures.without)
-    (c.in_err-out.ensures x (leader_stands setup a n x s c.requires.up c.in-Some.lead c.in-Some.ensures.leader))) c.from_residual.result c.from_residual.ensures.1
-
-pub returns-in_err-out-clause-up : goal.returns-in_err-out-clause-up
-returns-in_err-out-clause-up c = up_without c.args.self.now c.take_leader.new.self c.requires.up c.take_leader.ensures.without
+pub flush-requires-clause-part : goal.flush-requires-clause-part
+flush-requires-clause-part c = is_part (setup_of c.args.setup.now) c.args.self.now c.in-Up.field-0 c.in-Up.is c.requires.node
 
 pub returns-clause-tries : goal.returns-clause-tries
 returns-clause-tries c = λ a x s.
-    let setup = setup_of c.args.setup.now in
-    let n = c.args.self.now in
-    let m = c.take_leader.new.self in
-    works_done setup a n x s c.requires.up c.in-Some.lead c.in-Some.ensures.leader c.flush.new.self c.set_part.new.self
-    (c.set_part.ensures ∙ ap (λ k. with_part k (Leads c.flush.new.self)) c.take_leader.ensures.without) (flushes setup a x c.args.worker) c.in_ok-out.out
-    (subst (λ k. LeadTries setup c.flush.new.self x (flushes setup k x c.args.worker) (Ok c.in_ok-out.out)) (number_is setup a n x s c.requires.up m c.take_leader.ensures.without)
-    (c.in_ok-out.ensures x (leader_stands setup a n x s c.requires.up c.in-Some.lead c.in-Some.ensures.leader)))
-
-pub returns-clause-up : goal.returns-clause-up
-returns-clause-up c = up_with c.args.self.now c.take_leader.new.self c.set_part.new.self _ c.requires.up c.take_leader.ensures.without c.set_part.ensures
+    works_as (setup_of c.args.setup.now) a c.args.self.now x s c.requires.up c.in-Up.field-0 c.in-Up.is c.flush.new.self
+    (λ k y. flushes (setup_of c.args.setup.now) k y c.args.worker) c.flush.result c.flush.ensures

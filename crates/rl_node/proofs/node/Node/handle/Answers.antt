@@ -15,11 +15,11 @@ receive-answer-requires-clause-node c = is_well (setup_of c.args.setup.now) c.ar
 pub returns-clause-done : goal.returns-clause-done
 returns-clause-done c =
     let setup = setup_of c.args.setup.now in
-    notes_done setup (λ a x. handles setup a x c.args.bytes.now) c.args.self.now c.receive-answer.new.self c.note.new.self c.receive-answer.result c.note.result
-    c.in_ok-check.ensures c.receive-answer.ensures.tries c.note.ensures.node c.note.ensures.answer
+    notes_done setup (λ a x. handles setup a x c.args.bytes.now) c.args.self.now c.receive-answer.new.self c.note.new.self c.receive-answer.result
+    c.in_ok-check.ensures c.receive-answer.ensures.tries c.note.ensures
 
 pub returns-clause-refused : goal.returns-clause-refused
 returns-clause-refused c =
     let setup = setup_of c.args.setup.now in
-    notes_refused setup (λ a x. handles setup a x c.args.bytes.now) c.args.self.now c.receive-answer.new.self c.note.new.self c.receive-answer.result c.note.result
-    c.in_ok-check.ensures c.receive-answer.ensures.tries c.note.ensures.node c.note.ensures.answer
+    notes_refused setup (λ a x. handles setup a x c.args.bytes.now) c.args.self.now c.receive-answer.new.self c.note.new.self c.receive-answer.result
+    c.in_ok-check.ensures c.receive-answer.ensures.tries c.note.ensures

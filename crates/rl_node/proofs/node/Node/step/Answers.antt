@@ -1,4 +1,4 @@
-use Rattle.std.proofs.Common.{◌≡◌, ap}
+use Rattle.std.proofs.Common.{◌≡◌}
 use Rattle.rl_nodes.specs.Works.{steps}
 use Rattle.rl_node.specs.Moves.{out_of}
 use Rattle.rl_node.specs.SetupOf.{setup_of}
@@ -10,15 +10,15 @@ pub returns-clause-done : goal.returns-clause-done
 returns-clause-done c =
     let setup = setup_of c.args.setup.now in
     notes_done setup (λ a x. steps setup a x c.args.worker) c.args.self.now c.make_step-answer.new.self c.note_step.new.self
-    (out_of c.make_step-answer.result) (out_of c.note_step.result)
-    c.in_ok-check.ensures c.make_step-answer.ensures.tries c.note_step.ensures.node (ap out_of c.note_step.ensures.answer)
+    (out_of c.make_step-answer.result)
+    c.in_ok-check.ensures c.make_step-answer.ensures.tries c.note_step.ensures
 
 pub returns-clause-refused : goal.returns-clause-refused
 returns-clause-refused c =
     let setup = setup_of c.args.setup.now in
     notes_refused setup (λ a x. steps setup a x c.args.worker) c.args.self.now c.make_step-answer.new.self c.note_step.new.self
-    (out_of c.make_step-answer.result) (out_of c.note_step.result)
-    c.in_ok-check.ensures c.make_step-answer.ensures.tries c.note_step.ensures.node (ap out_of c.note_step.ensures.answer)
+    (out_of c.make_step-answer.result)
+    c.in_ok-check.ensures c.make_step-answer.ensures.tries c.note_step.ensures
 
 pub returns-in_err-check-clause-refused : goal.returns-in_err-check-clause-refused
 returns-in_err-check-clause-refused c =

@@ -11,11 +11,11 @@ returns-in_err-check-clause-refused c =
 pub returns-clause-done : goal.returns-clause-done
 returns-clause-done c =
     let setup = setup_of c.args.setup.now in
-    notes_done setup (ticks setup) c.args.self.now c.args.self.now c.note.new.self c.resend-answer.result c.note.result
-    c.in_ok-check.ensures c.resend-answer.ensures c.note.ensures.node c.note.ensures.answer
+    notes_done setup (ticks setup) c.args.self.now c.args.self.now c.note.new.self c.resend-answer.result
+    c.in_ok-check.ensures c.resend-answer.ensures c.note.ensures
 
 pub returns-clause-refused : goal.returns-clause-refused
 returns-clause-refused c =
     let setup = setup_of c.args.setup.now in
-    notes_refused setup (ticks setup) c.args.self.now c.args.self.now c.note.new.self c.resend-answer.result c.note.result
-    c.in_ok-check.ensures c.resend-answer.ensures c.note.ensures.node c.note.ensures.answer
+    notes_refused setup (ticks setup) c.args.self.now c.args.self.now c.note.new.self c.resend-answer.result
+    c.in_ok-check.ensures c.resend-answer.ensures c.note.ensures
