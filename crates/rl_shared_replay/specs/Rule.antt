@@ -70,7 +70,8 @@ module _ (p : Plan) (words : List ℕ) where
   pub record ViewFits (v : View) : Type 0 where
     -- what it has made is of the plan
     pub planned : (x : Version) → Contains v.made x → Contains p.versions x
-    -- no stamp that it has seen on a record is above the record's
+    -- no stamp that it has seen on a record is above the record's; so neither is that of a write
+    -- that it counts as settled, since one at least as high was seen there (Settled)
     pub seen : (y : Seen) → Contains v.seen y → y.stamp ≤ stamp_at words y.rec
     pub held : (h : Held) → v.held ≡ Some h → HoldFits h
 

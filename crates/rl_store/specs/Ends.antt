@@ -23,7 +23,7 @@ pub record IsNewest (b : Opening) (entry : Entry → Type 0) (r word : ℕ) (row
   pub version : Version b entry r (stamp_in word) row
   pub newest : (e : Entry) (row : RowOf) → entry e → Closes e r row → e.stamp ≤ stamp_in word
 
--- the words and rows at the end, after the items of a pass
+-- the stamps in the words, and the rows, at the end: those after the items of a pass
 pub record EndsAfter (b : Opening) (v : View) (words : List ℕ) (rows : List RowOf) : Type 0 where
   -- each record has its newest version
   pub records : (r : ℕ) → r < b.records → IsNewest b (λ e. In e (entries v)) r (slice_index words r) (slice_index_or rows r None)

@@ -59,8 +59,9 @@ impl Closed {
 }
 
 impl Store {
-    /// Takes each record's word and row out. With a whole pass at rest they are those after all its items in the
-    /// order of their stamps, and these are serial. After `Memory` the store and the pass come back.
+    /// Takes each record's word and row out. With a whole pass at rest the stamps in the words, and the rows, are those
+    /// after all its items in the order of their stamps, and these are serial. A record that another pass still holds
+    /// has its lock bit set. After `Memory` the store and the pass come back.
     pub fn close(self, alloc: Global, pass: Pass) -> Result<Closed, (Store, Pass, Memory)>
         requires table { pass.table ≡ self.table }
         ensures epoch { IfOk result (λ closed. closed.epoch ≡ self.made.epoch) }

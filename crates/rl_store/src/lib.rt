@@ -12,7 +12,5 @@ mod rule;
 pub mod spent;
 mod steps;
 pub mod store;
-#[cfg(test)]
-mod tests;
 mod validate;
 mod view;

@@ -14,8 +14,9 @@ use rl_base::refusal::Refusal;
 use std::marker::Brand;
 
 impl Store {
-    /// Locks a record, and answers its word as it was. It is refused where the word is locked; that gives the attempt
-    /// up, or ends it where it holds nothing.
+    /// Locks a record, and answers its word as it was. It is refused where the word is locked, also where this attempt
+    /// itself holds the record; that gives the attempt up, or ends it where it holds nothing. So lock each record once,
+    /// by rising number.
     pub fn lock(&self, pass: &mut Pass, rec: u32) -> Result<u64, Refusal>
         requires table { pass.old.table ≡ self.now.table }
         requires record { rec < length self.now.made.columns }
