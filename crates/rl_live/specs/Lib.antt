@@ -1,3 +1,4 @@
 pub mod Decided
 pub mod Laws
 pub mod Run
+pub mod Elections

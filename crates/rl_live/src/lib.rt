@@ -1,6 +1,7 @@
 //! The session of a leader's workers, each in a thread of its own: what they decide is serial.
 #![tactic(auto)]
 
+pub mod election;
 pub mod gate;
 pub mod laws;
 pub mod run;
