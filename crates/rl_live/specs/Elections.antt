@@ -1,5 +1,5 @@
 -- How a leader's streams begin: what every node promises, what is recovered, and what every node adopts.
-use Rattle.std.specs.Prelude.{◌≡◌, ℕ, zero, suc, ◌+◌, ◌/◌, ◌<◌, ◌≤◌, List, [], ◌∷◌, ◌++◌, length, map, None, All}
+use Rattle.std.specs.Prelude.{◌≡◌, ℕ, zero, suc, ◌+◌, ◌/◌, ◌<◌, ◌≤◌, List, [], ◌∷◌, ◌++◌, length, map, All}
 use Rattle.rl_base.specs.declared.limit.TheConstants.{SLOTS}
 use Rattle.rl_batch.specs.Encoding.{batch_bytes}
 use Rattle.rl_families.specs.Leaders.{open_mark}

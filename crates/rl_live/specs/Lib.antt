@@ -2,3 +2,4 @@ pub mod Decided
 pub mod Laws
 pub mod Run
 pub mod Elections
+pub mod Jobs

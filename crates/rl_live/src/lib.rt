@@ -3,5 +3,6 @@
 
 pub mod election;
 pub mod gate;
+pub mod job;
 pub mod laws;
 pub mod run;
