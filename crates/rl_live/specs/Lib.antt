@@ -1,2 +1,5 @@
 pub mod Decided
 pub mod Laws
+pub mod Run
+pub mod Elections
+pub mod Jobs
