@@ -93,12 +93,32 @@ last_of_some last (Items (x ∷ xs)) r = refl
 last_of_some last (Idle t) r = refl
 last_of_some last (Opened t) r = refl
 
--- a log ends with the last of its batches
-pub ends_with : (log : bytes.Log) (b : bytes.Batch) → slice_get log (length log - 1) ≡ Some b → log ≡ take (length log - 1) log ++ b ∷ []
-ends_with log b is =
-    let within : length log - 1 < length log = slice_get_within log (length log - 1) b is in
-    let all : length log - 1 + 1 ≡ length log = omega arith in
-    sym (take_all (length log) log (omega arith)) ∙ ap (λ n. take n log) (sym all) ∙ taken_more log (length log - 1) b is
+-- a list ends with the last of its elements
+pub ends_with : {X : Type 0} (xs : List X) (x : X) → slice_get xs (length xs - 1) ≡ Some x → xs ≡ take (length xs - 1) xs ++ x ∷ []
+ends_with xs x is =
+    let within : length xs - 1 < length xs = slice_get_within xs (length xs - 1) x is in
+    let all : length xs - 1 + 1 ≡ length xs = omega arith in
+    sym (take_all (length xs) xs (omega arith)) ∙ ap (λ n. take n xs) (sym all) ∙ taken_more xs (length xs - 1) x is
+
+-- that of the last batch, where that has one
+pub last_some : (front : List Batch) (batch : Batch) (o : Option Stamp) → o ≡ last_from None (stamps_in_batch batch)
+    → IfSome o (λ t. last_stamp (stamps_along (front ++ batch ∷ [])) ≡ Some t)
+last_some front batch o is =
+    let before = stamps_along front in
+    let along : before ++ stamps_in_batch batch ≡ stamps_along (front ++ batch ∷ []) =
+    sym (stamps_along-append front (batch ∷ []) ∙ ap (λ ts. before ++ ts) (append-nil (stamps_in_batch batch))) in
+    subst (λ (p : Option Stamp). IfSome p (λ t. last_stamp (stamps_along (front ++ batch ∷ [])) ≡ Some t)) (sym is)
+    (subst (λ (ts : List Stamp). IfSome (last_from None (stamps_in_batch batch)) (λ t. last_stamp ts ≡ Some t)) along (of_some before (stamps_in_batch batch)))
+  where
+    some_from : (s : Stamp) (ss : List Stamp) → (t : Stamp) × (last_from (Some s) ss ≡ Some t)
+    some_from s [] = (s, refl)
+    some_from s (t ∷ ss) = some_from t ss
+
+    of_some : (before ss : List Stamp) → IfSome (last_from None ss) (λ t. last_stamp (before ++ ss) ≡ Some t)
+    of_some before [] = tt
+    of_some before (s ∷ ss) =
+        let k = some_from s ss in
+        subst (λ (o : Option Stamp). IfSome o (λ t. last_stamp (before ++ s ∷ ss) ≡ Some t)) (sym k.1) (last_append before (s ∷ ss) ∙ k.1)
 
 -- that of the last batch
 pub last_along : (log front : bytes.Log) (b : bytes.Batch) (batch : Batch) → log ≡ front ++ b ∷ [] → batch_of b ≡ Some batch → BatchInRange batch

@@ -203,3 +203,15 @@ module _ (tables : List Table) (s e : ℕ) where
   wrong_by_batches log =
       same_false (is_wrong_behind tables s e None log) (is_wrong tables (record { stream = s; epoch = e; log = log }))
       (λ h. whole log (behind None log h)) (λ h. from_behind None log (from_whole log h))
+
+-- a log of one batch
+pub wrong_alone : (tables : List Table) (s e : ℕ) (x : List ℕ) (b : Batch) → batch_of x ≡ Some b
+    → is_wrong_batch tables s e None b ≡ is_wrong tables (record { stream = s; epoch = e; log = x ∷ [] })
+wrong_alone tables s e x b is =
+    sym (or_none (is_wrong_batch tables s e None b))
+    ∙ sym (ap (λ o. option_map_or (λ b. is_wrong_batch tables s e None b || is_wrong_behind tables s e (last_from None (stamps_in_batch b)) []) o true) is)
+    ∙ wrong_by_batches tables s e (x ∷ [])
+  where
+    or_none : (b : Bool) → (b || false) ≡ b
+    or_none true = refl
+    or_none false = refl

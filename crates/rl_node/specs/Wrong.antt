@@ -1,10 +1,12 @@
 -- What is wrong with a log, batch by batch. No public contract cites it.
-use Rattle.std.specs.Prelude.{ℕ, Bool, true, false, not, ◌&&◌, ◌||◌, ◌==◌, nat_lt, List, [], ◌∷◌, Option, Some}
+use Rattle.std.specs.Prelude.{ℕ, Bool, true, false, not, ◌&&◌, ◌||◌, ◌==◌, nat_lt, List, [], ◌∷◌, Option, Some, None}
 use Rattle.std.specs.List.{list_any, list_all}
 use Rattle.std.specs.Option.{option_map_or}
 use Rattle.rl_base.specs.Order.{is_below}
 use Rattle.rl_base.specs.declared.stamp.Stamp.{Stamp}
 use Rattle.rl_families.specs.Logs.{stamps_in_batch, items_in_batch}
+use Rattle.rl_msg.specs.declared.msg.Msg.{Msg}
+use Rattle.rl_msg.specs.declared.msg.Msg.TheVariants.{Accept}
 use Rattle.rl_paxos.specs.Logs as bytes
 use Rattle.rl_txn.specs.declared.item.Item.{Item}
 use Rattle.rl_txn.specs.declared.batch.Batch.{Batch}
@@ -46,3 +48,8 @@ is_wrong_behind tables s e last [] = false
 is_wrong_behind tables s e last (x ∷ xs) =
     option_map_or (λ b. is_wrong_batch tables s e last b || is_wrong_behind tables s e (last_from last (stamps_in_batch b)) xs)
     (batch_of x) true
+
+-- the batch that a message sends alone, where it sends one and that is a batch
+abbrev pub sent_batch : Msg → Option Batch
+sent_batch (Accept from to e s slot batch) = batch_of batch
+sent_batch other = None

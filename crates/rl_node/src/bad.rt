@@ -1,6 +1,6 @@
 //! Which messages no node of the run could have sent to a node.
 
-ghost use Rattle.std.specs.Prelude.{◌≡◌, ℕ, ◌≤◌, ◌&&◌, ◌||◌, ◌∷◌, [], not, true, false, length, nat_le, None, IfOk};
+ghost use Rattle.std.specs.Prelude.{◌≡◌, ℕ, ◌≤◌, ◌&&◌, ◌||◌, ◌∷◌, [], List, not, true, false, length, nat_le, Some, None, IfOk, IfSome};
 ghost use Rattle.std.specs.List.{list_any};
 ghost use Rattle.std.specs.Option.{option_map_or};
 ghost use Rattle.std.specs.Str.{bytes_eq};
@@ -13,19 +13,22 @@ ghost use Rattle.rl_msg.specs.Ranges.{MsgInRange};
 ghost use Rattle.rl_paxos.specs.Acceptors.{HasStream, kept_log};
 ghost use Rattle.rl_paxos.specs.Quorums.{is_node};
 ghost use Rattle.rl_nodes.specs.BadMessages.{is_astray, is_usurped, is_partial, is_wrong, is_untrue, is_bad, is_early, is_past_end, carried, carried_from, stream_named, proposer_in, begins, goes_on, would_append, would_adopt};
-ghost use Rattle.rl_nodes.specs.Batches.{batches_of, are_batches};
+ghost use Rattle.rl_nodes.specs.Batches.{batch_of, batches_of, are_batches};
 ghost use Rattle.rl_nodes.specs.Calls.{Standing};
 ghost use Rattle.rl_nodes.specs.Setups.{SetupFits};
+ghost use Rattle.rl_node.specs.Fits.{IsFront};
 ghost use Rattle.rl_node.specs.Named.{HasNamed, HasPartStream, ForAnyPart, known_front};
 ghost use Rattle.rl_node.specs.SetupOf.{setup_of};
 ghost use Rattle.rl_node.specs.Standing.{IsNode, is_running, Stands, ForStanding};
+ghost use Rattle.rl_node.specs.Wrong.{sent_batch};
 
 use crate::acking::stream_at;
 use crate::answer::receiver;
 use crate::node::{Node, Phase};
 use crate::part::Part;
+use crate::reading::{batch_of, read};
 use crate::setup::Setup;
-use crate::wrong::{Place, batch_of, is_wrong, last_behind};
+use crate::wrong::{Place, is_wrong, is_wrong_alone, last_behind};
 use rl_acceptor::acceptor::Acceptor;
 use rl_base::epoch::owner;
 use rl_base::list::{Ballots, Bytes, Log, Logs};
@@ -33,10 +36,9 @@ use rl_base::memory::Memory;
 use rl_base::stamp::{Stamp, is_below};
 use rl_cut::family::Family;
 use rl_msg::msg::Msg;
-use rl_txn::batch::Batch;
+use rl_txn::batch::{Batch, Batches};
 use rl_value::schema::Schema;
 use std::alloc::Global;
-use std::slice;
 
 impl Node {
     /// Whether no node of the run could have sent a message to this one.
@@ -51,16 +53,18 @@ impl Node {
         if is_astray(self.id, setup, m) || is_usurped(setup, m) || is_partial(setup, m) {
             return Ok(true);
         }
-        if has_wrong_log(alloc, setup, m)? {
+        let sent = sent_batch(alloc, m)?;
+        if has_wrong_log(alloc, setup, m, &sent)? {
             return Ok(true);
         }
-        self.is_untrue(alloc, m)
+        self.is_untrue(alloc, m, &sent)
     }
 
-    /// Whether a message does not go with the node as it is.
-    fn is_untrue(&self, alloc: Global, m: &Msg) -> Result<bool, Memory>
+    /// Whether a message, with the batch that it sends alone, does not go with the node as it is.
+    fn is_untrue(&self, alloc: Global, m: &Msg, sent: &Option<Batch>) -> Result<bool, Memory>
         requires up { is_running self.now ≡ true }
         requires node { HasNamed self.now (stream_named m.now) }
+        requires sent { sent.now ≡ sent_batch m.now }
         ensures { ForStanding self.now (λ setup a x. IfOk result (λ untrue. untrue ≡ is_untrue x.node m.now)) }
     {
         let Phase::Up(running) = &self.phase else {
@@ -78,9 +82,11 @@ impl Node {
                 epoch,
                 stream,
                 slot,
-                batch,
                 ..
-            } => falls_back(alloc, &self.acceptor, *epoch, *stream, *slot, batch),
+            } => {
+                let known = running.known.log(*stream);
+                falls_back(alloc, &self.acceptor, known, *epoch, *stream, *slot, sent)
+            }
             Msg::Ack {
                 epoch,
                 stream,
@@ -185,9 +191,29 @@ fn is_partial(setup: &Setup, m: &Msg) -> bool
 
 // ---- what is wrong with its logs ----
 
-/// Whether something is wrong with a log in a message.
-fn has_wrong_log(alloc: Global, setup: &Setup, m: &Msg) -> Result<bool, Memory>
+/// The batch that a message sends alone, where it sends one.
+fn sent_batch(alloc: Global, m: &Msg) -> Result<Option<Batch>, Memory>
+    ensures { IfOk result (λ sent. sent ≡ sent_batch m.now) }
+{
+    match m {
+        Msg::Accept { batch, .. } => batch_of(alloc, batch),
+        Msg::Prepare { .. }
+        | Msg::Promise { .. }
+        | Msg::Sync { .. }
+        | Msg::Ack { .. }
+        | Msg::Known { .. } => Ok(None),
+    }
+}
+
+/// Whether something is wrong with a log in a message, with the batch that it sends alone.
+fn has_wrong_log(
+    alloc: Global,
+    setup: &Setup,
+    m: &Msg,
+    sent: &Option<Batch>,
+) -> Result<bool, Memory>
     requires message { MsgInRange m.now }
+    requires sent { sent.now ≡ sent_batch m.now }
     ensures { let setup = setup_of setup.now in
         IfOk result (λ wrong. wrong ≡ list_any (is_wrong setup.program.tables) (carried m.now)) }
 {
@@ -205,17 +231,12 @@ fn has_wrong_log(alloc: Global, setup: &Setup, m: &Msg) -> Result<bool, Memory>
             };
             is_wrong(alloc, &setup.schema, place, log.as_slice())
         }
-        Msg::Accept {
-            epoch,
-            stream,
-            batch,
-            ..
-        } => {
+        Msg::Accept { epoch, stream, .. } => {
             let place = Place {
                 stream: *stream,
                 epoch: *epoch,
             };
-            is_wrong(alloc, &setup.schema, place, slice::from_ref(batch))
+            Ok(is_wrong_alone(&setup.schema, place, sent))
         }
         Msg::Prepare { .. } | Msg::Ack { .. } | Msg::Known { .. } => Ok(false),
     }
@@ -287,27 +308,29 @@ fn same_bytes(a: &Bytes, b: &Bytes) -> bool
     a.as_slice() == b.as_slice()
 }
 
-/// Whether an acceptor would append a batch that does not go on from its log.
+/// Whether an acceptor would append a batch that does not go on from its log, of which some is known.
 fn falls_back(
     alloc: Global,
     acceptor: &Acceptor,
+    known: &Batches,
     epoch: u32,
     stream: u32,
     slot: u32,
-    batch: &Bytes,
+    batch: &Option<Batch>,
 ) -> Result<bool, Memory>
     requires stream { HasStream acceptor.now stream }
     requires kept { are_batches (kept_log acceptor.now stream) ≡ true }
-    ensures { IfOk result (λ falls. falls ≡ (would_append acceptor.now epoch stream slot
+    requires known { IsFront (kept_log acceptor.now stream) known.now }
+    ensures { (bytes : List ℕ) → batch.now ≡ batch_of bytes
+        → IfOk result (λ falls. falls ≡ (would_append acceptor.now epoch stream slot
         && not (goes_on (stamps_along (batches_of (kept_log acceptor.now stream)))
-        (stamps_along (batches_of (batch.now ∷ [])))))) }
+        (stamps_along (batches_of (bytes ∷ [])))))) }
 {
     if !would_append(acceptor, epoch, stream, slot) {
         return Ok(false);
     }
-    let last = last_stamp(alloc, acceptor.log(stream))?;
-    let first = first_stamp(alloc, batch)?;
-    Ok(!goes_on(last, first))
+    let last = last_stamp(alloc, acceptor.log(stream), known)?;
+    Ok(!goes_on(last, first_stamp(batch)))
 }
 
 /// Whether an acceptor would append a batch.
@@ -320,27 +343,48 @@ fn would_append(acceptor: &Acceptor, epoch: u32, stream: u32, slot: u32) -> bool
         && acceptor.log(stream).len() == slot as usize
 }
 
+/// The last stamp along a log, of which some is known.
+fn last_stamp(alloc: Global, log: &Log, known: &Batches) -> Result<Option<Stamp>, Memory>
+    requires batches { are_batches log.now ≡ true }
+    requires known { IsFront log.now known.now }
+    ensures { IfOk result (λ last. last ≡ last_stamp (stamps_along (batches_of log.now))) }
+{
+    if known.len() == log.len() {
+        if let Some(last) = last_known(known) {
+            return Ok(Some(last));
+        }
+    }
+    last_encoded(alloc, log)
+}
+
+/// The last stamp of the last of some batches.
+fn last_known(known: &Batches) -> Option<Stamp>
+    ensures { IfSome result (λ last. last_stamp (stamps_along known.now) ≡ Some last) }
+{
+    let batch = known.as_slice().last()?;
+    last_behind(None, batch)
+}
+
 /// The last stamp along a log.
-fn last_stamp(alloc: Global, log: &Log) -> Result<Option<Stamp>, Memory>
+fn last_encoded(alloc: Global, log: &Log) -> Result<Option<Stamp>, Memory>
     requires { are_batches log.now ≡ true }
     ensures { IfOk result (λ last. last ≡ last_stamp (stamps_along (batches_of log.now))) }
 {
     let Some(bytes) = log.as_slice().last() else {
         return Ok(None);
     };
-    let Some(batch) = batch_of(alloc, bytes)? else {
-        unreachable!()
-    };
+    let batch = read(alloc, bytes)?;
     Ok(last_behind(None, &batch))
 }
 
-/// The first stamp of the batch that some bytes encode, where they encode one.
-fn first_stamp(alloc: Global, bytes: &Bytes) -> Result<Option<Stamp>, Memory>
-    ensures { IfOk result (λ first. first ≡ first_stamp (stamps_along (batches_of (bytes.now ∷ [])))) }
+/// The first stamp of a batch that some bytes encode, where they encode one.
+fn first_stamp(batch: &Option<Batch>) -> Option<Stamp>
+    ensures { (bytes : List ℕ) → batch.now ≡ batch_of bytes
+        → result ≡ first_stamp (stamps_along (batches_of (bytes ∷ []))) }
 {
-    match batch_of(alloc, bytes)? {
-        Some(batch) => Ok(first_in(&batch)),
-        None => Ok(None),
+    match batch {
+        Some(batch) => first_in(batch),
+        None => None,
     }
 }
 

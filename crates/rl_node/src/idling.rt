@@ -31,12 +31,11 @@ use crate::acking::stream_at;
 use crate::answer::{Out, Sends, sending};
 use crate::laws::turns;
 use crate::part::{Lead, Works};
+use crate::reading::read;
 use crate::setup::Setup;
 use rl_base::list::Bytes;
 use rl_base::memory::Memory;
 use rl_base::stamp::Stamp;
-use rl_batch::decode::decode_batch;
-use rl_fields::decode_error::DecodeError;
 use rl_nodes::node_error::NodeError;
 use rl_txn::batch::Batch;
 use std::alloc::Global;
@@ -255,10 +254,8 @@ fn is_end_mark(alloc: Global, bytes: &Bytes, epoch: u32) -> Result<bool, Memory>
     ensures { (batch : batches.Batch) → batch_of bytes.now ≡ Some batch
         → IfOk result (λ is. (is ≡ is_end_mark epoch batch) × BatchInRange batch) }
 {
-    match decode_batch(alloc, bytes.as_slice()) {
-        Ok(Batch::Idle(stamp)) => Ok(stamp.epoch == epoch && stamp.seq == END_SEQ),
-        Ok(Batch::Items(_) | Batch::Opened(_)) => Ok(false),
-        Err(DecodeError::Memory) => Err(Memory),
-        Err(DecodeError::Fault { .. }) => unreachable!(),
+    match read(alloc, bytes)? {
+        Batch::Idle(stamp) => Ok(stamp.epoch == epoch && stamp.seq == END_SEQ),
+        Batch::Items(_) | Batch::Opened(_) => Ok(false),
     }
 }

@@ -1,6 +1,7 @@
 //! Batches of a log of bytes.
 
-ghost use Rattle.std.specs.Prelude.{◌≡◌, ℕ, ◌-◌, ◌≤◌, ◌<◌, ◌++◌, ◌∷◌, [], true, length, take, is_some, slice_set, Some, None, IfOk, OnOk, OnErr, MatchResult};
+ghost use Rattle.std.specs.Prelude.{◌≡◌, ℕ, ◌-◌, ◌≤◌, ◌<◌, ◌++◌, ◌∷◌, [], true, length, take, is_some, slice_set, Some, None, IfOk, IfSome, OnOk, OnErr, MatchResult};
+ghost use Rattle.rl_batch.specs.Ranges.{BatchInRange};
 ghost use Rattle.rl_cut.specs.Refusals.{extend_refusal};
 ghost use Rattle.rl_families.specs.Logs.{IsRising, stamps_in_batch, stamps_along};
 ghost use Rattle.rl_families.specs.Streams.{log_at};
@@ -9,21 +10,33 @@ ghost use Rattle.rl_node.specs.Knowing.{HasFront};
 
 use rl_base::list::{Bytes, Log};
 use rl_base::memory::Memory;
+use rl_batch::batch_error::BatchError;
 use rl_batch::decode::decode_batch;
 use rl_cut::family::{ExtendError, Family};
-use rl_fields::decode_error::DecodeError;
 use rl_txn::batch::Batch;
 use std::alloc::Global;
+
+/// The batch that some bytes are, where they are one.
+pub fn batch_of(alloc: Global, bytes: &Bytes) -> Result<Option<Batch>, Memory>
+    ensures batch { IfOk result (λ batch. batch ≡ batch_of bytes.now) }
+    ensures in_range { IfOk result (λ batch. IfSome batch BatchInRange) }
+{
+    match decode_batch(alloc, bytes.as_slice()) {
+        Ok(batch) => Ok(Some(batch)),
+        Err(BatchError::Fault { .. }) => Ok(None),
+        Err(BatchError::Memory) => Err(Memory),
+    }
+}
 
 /// The batch that some bytes encode.
 pub fn read(alloc: Global, bytes: &Bytes) -> Result<Batch, Memory>
     requires { is_some (batch_of bytes.now) ≡ true }
-    ensures { IfOk result (λ batch. batch_of bytes.now ≡ Some batch) }
+    ensures batch { IfOk result (λ batch. batch_of bytes.now ≡ Some batch) }
+    ensures in_range { IfOk result BatchInRange }
 {
-    match decode_batch(alloc, bytes.as_slice()) {
-        Ok(batch) => Ok(batch),
-        Err(DecodeError::Memory) => Err(Memory),
-        Err(DecodeError::Fault { .. }) => unreachable!(),
+    match batch_of(alloc, bytes)? {
+        Some(batch) => Ok(batch),
+        None => unreachable!(),
     }
 }
 

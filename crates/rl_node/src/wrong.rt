@@ -1,20 +1,18 @@
 //! What may be wrong with a log that a message carries.
 
-ghost use Rattle.std.specs.Prelude.{◌≡◌, ◌||◌, true, None, not, map, IfOk, IfSome};
+ghost use Rattle.std.specs.Prelude.{◌≡◌, ◌||◌, ℕ, List, [], ◌∷◌, true, None, not, map, IfOk};
 ghost use Rattle.std.specs.Option.{option_map_or};
 ghost use Rattle.rl_base.specs.Order.{is_below};
-ghost use Rattle.rl_batch.specs.Ranges.{BatchInRange};
 ghost use Rattle.rl_nodes.specs.Batches.{batch_of};
 ghost use Rattle.std.specs.List.{list_all, list_any};
 ghost use Rattle.rl_families.specs.Logs.{stamps_in_batch};
 ghost use Rattle.rl_nodes.specs.BadMessages.{is_wrong, write_fits};
 ghost use Rattle.rl_node.specs.Wrong.{is_chain, last_from, is_other, is_later, is_misfit, is_wrong_batch, is_wrong_behind};
 
+use crate::reading::batch_of;
 use rl_base::list::Bytes;
 use rl_base::memory::Memory;
 use rl_base::stamp::{Stamp, is_below};
-use rl_batch::batch_error::BatchError;
-use rl_batch::decode::decode_batch;
 use rl_txn::batch::Batch;
 use rl_txn::item::Item;
 use rl_txn::write::Write;
@@ -58,15 +56,14 @@ fn is_wrong_behind(
     Ok(false)
 }
 
-/// The batch that some bytes are, where they are one.
-pub fn batch_of(alloc: Global, bytes: &Bytes) -> Result<Option<Batch>, Memory>
-    ensures batch { IfOk result (λ batch. batch ≡ batch_of bytes.now) }
-    ensures in_range { IfOk result (λ batch. IfSome batch BatchInRange) }
+/// Whether something is wrong with a log of one batch, or that is none.
+pub fn is_wrong_alone(schema: &Schema, place: Place, batch: &Option<Batch>) -> bool
+    ensures { (bytes : List ℕ) → batch.now ≡ batch_of bytes → result
+        ≡ is_wrong schema.now (record { stream = place.stream; epoch = place.epoch; log = bytes ∷ [] }) }
 {
-    match decode_batch(alloc, bytes.as_slice()) {
-        Ok(batch) => Ok(Some(batch)),
-        Err(BatchError::Fault { .. }) => Ok(None),
-        Err(BatchError::Memory) => Err(Memory),
+    match batch {
+        Some(batch) => is_wrong_batch(schema, place, None, batch),
+        None => true,
     }
 }
 

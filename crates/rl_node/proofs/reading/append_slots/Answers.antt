@@ -12,11 +12,11 @@ read-requires c = encodes_at c.args.log.now c.loop-slot.slot c.get.result.now c.
 
 pub append-requires-clause-rising : goal.append-requires-clause-rising
 append-requires-clause-rising c =
-    batch_rises c.args.log.now c.loop-slot.slot c.get.result.now c.in_ok-batch.batch c.requires.rising c.get.ensures c.in_ok-batch.ensures
+    batch_rises c.args.log.now c.loop-slot.slot c.get.result.now c.in_ok-batch.batch c.requires.rising c.get.ensures c.in_ok-batch.ensures.batch
 
 pub append-requires-clause-free : goal.append-requires-clause-free
 append-requires-clause-free c =
-    batch_goes_on c.args.log.now c.loop-slot.slot c.get.result.now c.in_ok-batch.batch c.requires.rising c.get.ensures c.in_ok-batch.ensures
+    batch_goes_on c.args.log.now c.loop-slot.slot c.get.result.now c.in_ok-batch.batch c.requires.rising c.get.ensures c.in_ok-batch.ensures.batch
     c.loop-slot.family c.args.stream c.loop-slot.invariant.there
 
 pub loop-slot-preserved : goal.loop-slot-preserved
@@ -27,7 +27,7 @@ loop-slot-preserved c =
     let s = c.args.stream in
     let old = batches_of (take c.loop-slot.slot c.args.log.now) in
     let new = batches_of (take (c.loop-slot.slot + 1) c.args.log.now) in
-    let more = front_more c.args.log.now c.loop-slot.slot c.get.result.now c.in_ok-batch.batch c.requires.rising c.get.ensures c.in_ok-batch.ensures in
+    let more = front_more c.args.log.now c.loop-slot.slot c.get.result.now c.in_ok-batch.batch c.requires.rising c.get.ensures c.in_ok-batch.ensures.batch in
     let low : 1 ≤ s = c.requires.first in
     let high : s ≤ length before = (let streams = c.loop-slot.invariant.streams in omega (arith, c.requires.last, streams)) in
     let changed : after ≡ slice_set before (s - 1) new =
