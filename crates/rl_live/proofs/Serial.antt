@@ -66,7 +66,7 @@ placed (y ∷ ys) x i = elim i [
 ]
 
 -- writes of different records are at different keys
-apart_keys : (tables : List Table) (writes : List Write) → AreWrites tables writes → AllPairs AreApart writes
+pub apart_keys : (tables : List Table) (writes : List Write) → AreWrites tables writes → AllPairs AreApart writes
 apart_keys tables writes a i j d l m = λ t k.
     let p = place_at writes i d (omega arith) in
     let q = place_at writes j d m in
