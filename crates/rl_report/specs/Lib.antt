@@ -1,6 +1,7 @@
 pub mod Answers
 pub mod Forms
 pub mod Laws
+pub mod Lent
 pub mod LineForms
 pub mod Lines
 pub mod Numbers
@@ -8,4 +9,5 @@ pub mod Parts
 pub mod Printed
 pub mod Read
 pub mod Readers
+pub mod Rows
 pub mod Words

@@ -4,6 +4,7 @@
 pub mod block;
 pub mod fault;
 pub mod laws;
+pub mod lent;
 pub mod line;
 mod line_forms;
 mod line_words;

@@ -25,7 +25,7 @@ use std::alloc::{AllocError, Global};
 
 /// The words of the next line, and the text behind it.
 #[tactic(auto, using(crate::proofs::Places::next_lines))]
-fn line_at(alloc: Global, text: &[u8]) -> Result<(Vec<&str>, &[u8]), LinesError>
+pub(crate) fn line_at(alloc: Global, text: &[u8]) -> Result<(Vec<&str>, &[u8]), LinesError>
     ensures line { AreLinesRead (λ x. (map (λ w. w.now) x.0.items, lines_in x.1.now)) result (next_line (lines_in text.now)) }
     ensures shorter { IfOk result (λ x. length x.1.now < length text.now) }
 {
@@ -38,7 +38,7 @@ fn line_at(alloc: Global, text: &[u8]) -> Result<(Vec<&str>, &[u8]), LinesError>
 
 /// Whether the first word of the next line is this one.
 #[tactic(auto, using(crate::proofs::Places::next_words))]
-fn next_begins(alloc: Global, due: &str, text: &[u8]) -> Result<bool, AllocError>
+pub(crate) fn next_begins(alloc: Global, due: &str, text: &[u8]) -> Result<bool, AllocError>
     ensures { IfOk result (λ b. b ≡ next_begins due.now (lines_in text.now)) }
 {
     if text.is_empty() {
@@ -94,7 +94,7 @@ fn several_items(alloc: Global, count: u64, text: &[u8]) -> Result<(ItemLines, &
 
 /// The items behind their count, and the text behind them.
 #[tactic(auto, unfolding(crate::specs::Read::items))]
-fn items_at(alloc: Global, text: &[u8]) -> Result<(ItemLines, &[u8]), LinesError>
+pub(crate) fn items_at(alloc: Global, text: &[u8]) -> Result<(ItemLines, &[u8]), LinesError>
     ensures items { AreLinesRead (λ x. (x.0, lines_in x.1.now)) result (items (lines_in text.now)) }
     ensures shorter { IfOk result (λ x. length x.1.now ≤ length text.now) }
 {
@@ -109,7 +109,7 @@ fn items_at(alloc: Global, text: &[u8]) -> Result<(ItemLines, &[u8]), LinesError
 
 /// A row, and the text behind it.
 #[tactic(auto, unfolding(crate::specs::Read::one_line))]
-fn row_at(alloc: Global, text: &[u8]) -> Result<(RowLine, &[u8]), LinesError>
+pub(crate) fn row_at(alloc: Global, text: &[u8]) -> Result<(RowLine, &[u8]), LinesError>
     ensures row { AreLinesRead (λ x. (x.0, lines_in x.1.now)) result (one row (lines_in text.now)) }
     ensures shorter { IfOk result (λ x. length x.1.now < length text.now) }
 {
@@ -308,7 +308,7 @@ fn plain_at(alloc: Global, number: u32, text: &[u8]) -> Result<(Block, &[u8]), L
 
 /// Whether a node comes: the first one is due.
 #[tactic(auto, using(crate::proofs::Places::node_lines))]
-fn node_comes(number: u32, text: &[u8]) -> bool
+pub(crate) fn node_comes(number: u32, text: &[u8]) -> bool
     ensures { result ≡ ((number == 1) || not (length (lines_in text.now) == 0)) }
 {
     number == 1 || !text.is_empty()
@@ -503,7 +503,11 @@ fn live_body(alloc: Global, text: &[u8]) -> Result<(Report, &[u8]), LinesError>
 }
 
 /// What a report of a title has, and the text behind it.
-fn body_at(alloc: Global, title: Title, text: &[u8]) -> Result<(Report, &[u8]), LinesError>
+pub(crate) fn body_at(
+    alloc: Global,
+    title: Title,
+    text: &[u8],
+) -> Result<(Report, &[u8]), LinesError>
     requires { length text.now < 2 ^ 32 - 1 }
     ensures { AreLinesRead (λ x. (x.0, lines_in x.1.now)) result (body title (lines_in text.now)) }
 {
@@ -517,7 +521,7 @@ fn body_at(alloc: Global, title: Title, text: &[u8]) -> Result<(Report, &[u8]), 
 
 /// The title, and the text behind it.
 #[tactic(auto, unfolding(crate::specs::Read::one_line))]
-fn title_at(alloc: Global, text: &[u8]) -> Result<(Title, &[u8]), LinesError>
+pub(crate) fn title_at(alloc: Global, text: &[u8]) -> Result<(Title, &[u8]), LinesError>
     ensures title { AreLinesRead (λ x. (x.0, lines_in x.1.now)) result (one_line title_of (lines_in text.now)) }
     ensures shorter { IfOk result (λ x. length x.1.now ≤ length text.now) }
 {
@@ -544,7 +548,7 @@ fn read_lines(alloc: Global, text: &[u8]) -> Result<Report, LinesError>
 }
 
 /// A fault by its line.
-fn numbered_fault(count: usize, ended: bool, fault: Fault) -> ReportError
+pub(crate) fn numbered_fault(count: usize, ended: bool, fault: Fault) -> ReportError
     requires { count < 2 ^ 32 - 1 }
     ensures { let wrong = numbered_fault count ended fault in result ≡ ReportError.Fault wrong.0 wrong.1 }
 {
