@@ -210,6 +210,28 @@ impl Worker {
         if !self.at_rest() {
             return Ok(());
         }
+        self.start(alloc, layout, schema, txn)
+    }
+
+    /// Starts an attempt of a request, up to the first record that it wants or to its end. Apart from `begin`, since only
+    /// here room on the stack is cleared for an attempt.
+    fn start(
+        &mut self,
+        alloc: Global,
+        layout: &Layout,
+        schema: &Schema,
+        txn: &Txn,
+    ) -> Result<(), Memory>
+        requires layout { layout.now ≡ sizes_of schema.now }
+        requires txn { TxnFits schema.now txn.now }
+        requires epoch { self.old.epoch < 2 ^ 20 }
+        requires rests { is_resting self.old.stage ≡ true }
+        ensures begun { OnOk result (HasBegun schema.now txn.now self.old self.new) }
+        ensures same { OnOk result (IsAttemptOf self.old self.new) }
+        ensures fits { OnOk result (StageFits schema.now txn.now self.new self.new.stage) }
+        ensures attempt { OnOk result (is_resting self.new.stage ≡ false) }
+        ensures unchanged { OnErr result (self.new ≡ self.old) }
+    {
         let reading = Reading::start(alloc, schema, txn)?;
         self.stage = self.run_on(reading, layout, schema, txn);
         Ok(())
