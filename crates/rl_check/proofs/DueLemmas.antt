@@ -1,5 +1,5 @@
 -- Lists beside those that are due, part by part.
-use Rattle.std.proofs.Common.{◌≡◌, ◌≢◌, ℕ, zero, suc, ◌+◌, ◌-◌, ◌<◌, List, [], ◌∷◌, ◌++◌, length, take, slice_get, Some, None, refl, ap, subst, sym, ◌∙◌, arith, append_assoc, append-nil, length-append}
+use Rattle.std.proofs.Common.{◌≡◌, ◌≢◌, ℕ, zero, suc, ◌+◌, ◌-◌, ◌<◌, List, [], ◌∷◌, ◌++◌, length, take, slice_get, Option, Some, None, refl, ap, subst, sym, ◌∙◌, arith, append_assoc, append-nil, length-append}
 use Rattle.std.specs.List.{flat_map, range_with_len}
 use Rattle.std.proofs.Math.Seq.{take-append_seam}
 use Rattle.std.proofs.lemmas.Grind.{flat_map-append}
@@ -55,6 +55,9 @@ module _ {X : Type 0} (f : ℕ → List X) where
 
 -- ---- an index ----
 
+some_is : {X : Type 0} (x y : X) → Some x ≡ Some y → x ≡ y
+some_is x y e = cc
+
 module _ {X : Type 0} where
   next_of : (xs ys : List X) → slice_get (xs ++ ys) (length xs) ≡ slice_get ys 0
   next_of [] ys = refl
@@ -94,8 +97,14 @@ module _ {X : Type 0} where
       cc
 
   -- the first is another than the only one due
-  pub differ_first : (next : X) (xs : List X) → slice_get xs 0 ≢ Some next → Differ (next ∷ []) xs xs
+  differ_first : (next : X) (xs : List X) → slice_get xs 0 ≢ Some next → Differ (next ∷ []) xs xs
   differ_first next xs other = record { same = []; next = next; more = []; of_list = refl; of_due = refl; differ = other }
+
+  pub differ_none : (next : X) (xs : List X) → xs ≡ [] → Differ (next ∷ []) xs xs
+  differ_none next xs none = differ_first next xs (λ e. let both : ◌≡◌ {A = Option X} None (Some next) = ap (λ (ys : List X). slice_get ys 0) (sym none) ∙ e in cc)
+
+  pub differ_head : (next : X) (xs : List X) (x : X) (rest : List X) → xs ≡ x ∷ rest → (x ≡ next → ⊥) → Differ (next ∷ []) xs xs
+  differ_head next xs x rest is other = differ_first next xs (λ e. let both : ◌≡◌ {A = Option X} (Some x) (Some next) = ap (λ (ys : List X). slice_get ys 0) (sym is) ∙ e in other (some_is x next both))
 
   pub differ_as : (d e : List X) (xs left : List X) → d ≡ e → Differ d xs left → Differ e xs left
   differ_as d e xs left same is = subst (λ ys. Differ ys xs left) same is

@@ -1,5 +1,6 @@
 -- What a checker keeps of the items so far. No public contract cites it.
 use Rattle.std.specs.Prelude.{◌≡◌, ℕ, ◌+◌, ◌-◌, List, ◌∷◌, [], ◌++◌, length, map, slice_index, Option, Some, None}
+use Rattle.rl_value.specs.Rows.{Rows}
 use Rattle.rl_txn.specs.Serial.{rows_after, request}
 use Rattle.rl_txn.specs.declared.op.Op.{Op}
 use Rattle.rl_txn.specs.declared.item.Item.{Item}
@@ -16,6 +17,21 @@ use Rattle.rl_check.specs.declared.verdict.Why.TheVariants as why
 use Rattle.rl_check.specs.Counts.{IsGreatest, CountsItems}
 use Rattle.rl_check.specs.Right.{MayDecide}
 use Rattle.rl_check.specs.Verdicts.{WrongItem, FirstWrongItem, AreRight, FirstWrongRow, OtherNodes}
+
+-- a script with other opening rows
+abbrev pub with_rows : Script → Rows → Script
+with_rows script rows = record {
+  schema = script.schema;
+  rows = rows;
+  nodes = script.nodes;
+  workers = script.workers;
+  batch = script.batch;
+  loss = script.loss;
+  seed = script.seed;
+  stops = script.stops;
+  lists = script.lists;
+  events = script.events;
+}
 
 -- the requests of these items were run again
 pub record HasRun (script : Script) (items : List Item) (rerun : Rerun) : Type 0 where

@@ -1,47 +1,59 @@
 //! The nodes of a report.
 
-ghost use Rattle.std.specs.Prelude.{◌≡◌, ◌<◌, ◌^◌, length};
+ghost use Rattle.std.specs.Prelude.{◌≡◌, ◌<◌, ◌^◌, IfOk, length};
+ghost use Rattle.rl_report.specs.Lent.{threads_report};
 ghost use Rattle.rl_report.specs.Lines.{row_lines};
 ghost use Rattle.rl_check.specs.Verdicts.{node_line};
 ghost use Rattle.rl_check.specs.Reruns.{IsNodesVerdict};
 
 use crate::rows::first_other;
 use crate::verdict::{Verdict, Why};
-use rl_report::report::Report;
+use rl_base::memory::Memory;
+use rl_report::lent::LentNodes;
+use rl_report::line::ItemLines;
 use rl_script::script::Script;
 use rl_value::map::Map;
+use std::alloc::Global;
 
-/// The verdict on a report whose items are all requests, by its nodes: each has these rows.
-pub fn judge_nodes(script: &Script, report: &Report, rows: &Map) -> Verdict
-    requires { node_line report.now (length report.now.blocks) < 2 ^ 32 }
-    ensures { IsNodesVerdict script.now.nodes (row_lines script.now.schema rows.now) report.now result }
+/// The verdict on the report of a run of threads whose items are all requests, by its nodes: each has
+/// these rows.
+pub fn judge_nodes(
+    alloc: Global,
+    script: &Script,
+    items: &ItemLines,
+    nodes: &LentNodes,
+    rows: &Map,
+) -> Result<Verdict, Memory>
+    requires { node_line (threads_report items.now nodes.now) (length nodes.now) < 2 ^ 32 }
+    ensures { IfOk result (λ verdict. IsNodesVerdict script.now.nodes (row_lines script.now.schema rows.now)
+        (threads_report items.now nodes.now) verdict) }
 {
-    let mut line = report.items.len() as u32 + 3;
+    let mut line = items.len() as u32 + 3;
     let mut node = 0;
-    for block in report.blocks.as_slice() {
+    for block in nodes.as_slice() {
         if node == script.nodes {
-            return Verdict::No {
+            return Ok(Verdict::No {
                 line,
                 why: Why::Nodes,
-            };
+            });
         }
-        let other = first_other(block.rows.as_slice(), &script.schema, rows);
+        let other = first_other(alloc, block.rows(), &script.schema, rows)?;
         if let Some(row) = other {
-            return Verdict::No {
+            return Ok(Verdict::No {
                 line: line + 1 + row as u32,
                 why: Why::Table,
-            };
+            });
         }
-        line += 1 + block.rows.len() as u32;
+        line += 1 + block.rows().len() as u32;
         node += 1;
     }
     if node < script.nodes {
-        return Verdict::No {
+        return Ok(Verdict::No {
             line,
             why: Why::Nodes,
-        };
+        });
     }
-    Verdict::Yes {
-        items: report.items.len() as u32,
-    }
+    Ok(Verdict::Yes {
+        items: items.len() as u32,
+    })
 }

@@ -3,12 +3,13 @@
 ghost use Rattle.std.specs.Prelude.{◌≡◌, ◌≢◌, ◌+◌, ◌-◌, ◌<◌, ◌≤◌, ◌^◌, ◌++◌, ◌∷◌, [], ℕ, List, IfOk, IfSome, IfNone, OnOk, length, slice_set};
 ghost use Rattle.std.specs.Bool.{OnTrue, OnFalse};
 ghost use Rattle.rl_base.specs.Stamps.{packed};
+ghost use Rattle.rl_value.specs.Rows.{Rows};
 ghost use Rattle.rl_txn.specs.Serial.{after_writes, IsInLists, IsWhole};
 ghost use Rattle.rl_txn.specs.declared.item.Item.{Item};
 ghost use Rattle.rl_txn.specs.declared.op.Op.{Op};
 ghost use Rattle.rl_script.specs.Fits.{ScriptFits};
 ghost use Rattle.rl_check.specs.Counts.{CountsItems};
-ghost use Rattle.rl_check.specs.Reruns.{HasRun, HasTaken, IsNextIn};
+ghost use Rattle.rl_check.specs.Reruns.{HasRun, HasTaken, IsNextIn, with_rows};
 
 use crate::stamps::may_follow;
 use crate::verdict::Why;
@@ -35,28 +36,29 @@ pub struct Rerun {
 }
 
 impl Rerun {
-    /// No request was run.
-    pub fn begin(alloc: Global, script: &Script) -> Result<Rerun, Memory>
-        ensures { IfOk result (λ rerun. HasRun script.now [] rerun) }
+    /// No request was run on these opening rows.
+    pub fn begin(alloc: Global, script: &Script, rows: Map) -> Result<Rerun, Memory>
+        ensures { IfOk result (λ rerun. HasRun (with_rows script.now rows) [] rerun) }
     {
         Ok(Rerun {
-            rows: script.rows.copy()?,
+            rows,
             last: 0,
             counts: vec![in alloc; 0; script.lists.len()]?,
         })
     }
 
-    /// Runs the request of one more item again, or answers why its line is wrong.
+    /// Runs the request of one more item again, or answers why its line is wrong. The opening rows are
+    /// those that it began with.
     pub fn take(
         &mut self,
         alloc: Global,
         script: &Script,
         line: &ItemLine,
     ) -> Result<Option<Why>, Memory>
-        requires fits { ScriptFits script.now }
-        requires ran { (items : List Item) × HasRun script.now items self.old }
-        ensures { (items : List Item) → HasRun script.now items self.old
-            → IfOk result (λ wrong. HasTaken script.now items line.now self.new wrong) }
+        requires fits { (opening : Rows) × ScriptFits (with_rows script.now opening) }
+        requires ran { (opening : Rows) × (items : List Item) × HasRun (with_rows script.now opening) items self.old }
+        ensures { (opening : Rows) (items : List Item) → HasRun (with_rows script.now opening) items self.old
+            → IfOk result (λ wrong. HasTaken (with_rows script.now opening) items line.now self.new wrong) }
     {
         if !may_follow(&script.stops, self.last, line.stamp) {
             return Ok(Some(Why::Stamp));

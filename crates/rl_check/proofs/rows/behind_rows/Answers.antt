@@ -6,8 +6,10 @@ use Rattle.rl_check.proofs.rows.behind_rows.Goals as goal
 pub returns-in-Err : goal.returns-in-Err
 returns-in-Err c =
     let within : c.loop-t.t < length c.args.schema.now = omega (arith, c.count-t-end.ensures.count, c.loop-t-test.true) in
-    differ_more (row_lines_of_table c.args.schema.now c.args.rows.now) c.loop-t.t (length c.args.schema.now) c.args.lines.now c.loop-t.left.now c.in-Err.other.now within c.loop-t.invariant c.in-Err.ensures
+    let is = rw c.in-Err.is at c.in_ok-behind.ensures in
+    differ_more (row_lines_of_table c.args.schema.now c.args.rows.now) c.loop-t.t (length c.args.schema.now) c.args.lines c.loop-t.left c.in-Err.other within c.loop-t.invariant is
 
 pub loop-t-preserved : goal.loop-t-preserved
 loop-t-preserved c =
-    same_more (row_lines_of_table c.args.schema.now c.args.rows.now) c.loop-t.t c.args.lines.now c.loop-t.left.now c.in-Ok.behind.now c.loop-t.invariant c.in-Ok.ensures
+    let is = rw c.in-Ok.is at c.in_ok-behind.ensures in
+    same_more (row_lines_of_table c.args.schema.now c.args.rows.now) c.loop-t.t c.args.lines c.loop-t.left c.in-Ok.behind c.loop-t.invariant is

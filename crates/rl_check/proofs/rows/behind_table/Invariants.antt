@@ -6,4 +6,4 @@ use Rattle.rl_report.specs.Lines.{row_line}
 use Rattle.rl_check.proofs.rows.behind_table.Given as goal
 
 abbrev pub invariant-loop-key : goal.invariant-loop-key
-invariant-loop-key l = l.lines ≡ flat_map (λ key. row_line (name_of l.schema l.t) key (finite.get l.rows (l.t, key))) (range_with_len 0 l.key) ++ l.left
+invariant-loop-key l = l.fn.lines ≡ flat_map (λ key. row_line (name_of l.schema l.t) key (finite.get l.rows (l.t, key))) (range_with_len 0 l.key) ++ l.left
