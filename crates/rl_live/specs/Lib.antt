@@ -1,3 +1,5 @@
+pub mod Attempts
 pub mod Decided
 pub mod Laws
 pub mod Run
+pub mod Workers
