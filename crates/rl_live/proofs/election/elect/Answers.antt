@@ -15,7 +15,7 @@ sync-requires-clause-streams g c =
     let same = c.requires.same.1 in
     let count = c.len-count.result in
     let many : c.args.streams ≡ length c.in_ok-leds.leds.items =
-      sym (ap length c.in_ok-leds.ensures ∙ (map_long (new_led c.args.epoch _) (map (with_mark c.args.epoch) c.in_ok-nodes.logs) ∙ (map_long (with_mark c.args.epoch) c.in_ok-nodes.logs ∙ (ap length (c.in_ok-nodes.ensures.logs logs same) ∙ same.streams_are)))) in
+    sym (ap length c.in_ok-leds.ensures ∙ (map_long (new_led c.args.epoch _) (map (with_mark c.args.epoch) c.in_ok-nodes.logs) ∙ (map_long (with_mark c.args.epoch) c.in_ok-nodes.logs ∙ (ap length (c.in_ok-nodes.ensures.logs logs same) ∙ same.streams_are)))) in
     subst (λ k. All (λ (n : List Acceptor). length n ≡ k) c.in_ok-nodes.nodes.items) many
     (subst (All (λ (n : List Acceptor). length n ≡ c.args.streams)) (sym c.in_ok-nodes.ensures.nodes) (as_many c.args.epoch c.args.streams logs c.args.nodes.items same))
 

@@ -19,8 +19,8 @@ loop-node-preserved g c =
     let whole : y ++ (x ∷ rest) ≡ c.args.nodes.items = ap (λ z. y ++ z) (sym c.in-Some.ensures.steps.0) ∙ i.all in
     let number : ℕ = c.len.result in
     let many : number ≡ 1 + length y = (
-      let a = c.len.ensures in let b = ap length c.in_ok-push.ensures.items in let d = length-append c.loop-node.promised.items (c.in_ok-node.node ∷ []) in
-      let e = ap length i.nodes in let f = map_long (promising c.args.epoch) y in let v = c.push.new.self.ok.0 in omega arith) in
+    let a = c.len.ensures in let b = ap length c.in_ok-push.ensures.items in let d = length-append c.loop-node.promised.items (c.in_ok-node.node ∷ []) in
+    let e = ap length i.nodes in let f = map_long (promising c.args.epoch) y in let v = c.push.new.self.ok.0 in omega arith) in
     let few : number ≤ n = (let a = ap length whole in let b = length-append y (x ∷ rest) in omega arith) in
     record {
       all = append_assoc y (x ∷ []) rest ∙ whole;

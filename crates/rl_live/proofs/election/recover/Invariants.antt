@@ -10,6 +10,10 @@ invariant-loop-node g l = record {
   all : l.yielded ++ into_iter_items l.node-iterator ≡ l.fn.nodes.items;
   nodes : l.promised.items ≡ map (promising l.epoch) l.yielded;
   candidate : l.candidate ≡ record {
-    epoch = l.epoch; nodes = length l.fn.nodes.items; streams = l.streams;
-    need = length l.fn.nodes.items / 2 + 1; promises = promises_from 1 l.yielded };
+    epoch = l.epoch;
+    nodes = length l.fn.nodes.items;
+    streams = l.streams;
+    need = length l.fn.nodes.items / 2 + 1;
+    promises = promises_from 1 l.yielded;
+  };
 }
