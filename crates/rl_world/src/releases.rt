@@ -21,6 +21,9 @@ fn last_stamp(released: &Items) -> Option<Stamp>
 pub fn release(released: &mut Items, items: Items) -> Result<(), Memory>
     ensures { OnOk result (released.new ≡ released.old ++ unreleased released.old items) }
 {
+    if items.is_empty() {
+        return Ok(());
+    }
     let last = last_stamp(released);
     for item in items.into_vec() {
         if is_above(item.stamp, last) {

@@ -143,6 +143,9 @@ impl Told {
         ensures released { self.new.released ≡ self.old.released }
         ensures lines { self.new.lines ≡ self.old.lines }
     {
+        if sends.is_empty() {
+            return Ok(());
+        }
         for message in sends.into_vec() {
             self.sent = self.net.send(message.to, message.bytes)?;
         }
