@@ -24,18 +24,18 @@ need_program_and_counter() {
   need_counter
 }
 
-# Instructions of a command on $work/in. Another status than the wanted one ends the bench.
+# Instructions of a command, which may have more words, on $work/in. Another status than the wanted one ends the bench.
 count() {
-  "$binary" "$1" <"$work/in" >"$work/told"
+  "$binary" "$@" <"$work/in" >"$work/told"
   if [ $? -ne "$wanted" ]; then
-    echo "bench: '$1' did not run: $(head -n 1 "$work/told")" >&2
+    echo "bench: '$*' did not run: $(head -n 1 "$work/told")" >&2
     exit 1
   fi
   if command -v valgrind >/dev/null 2>&1; then
-    valgrind --tool=callgrind --callgrind-out-file="$work/out" "$binary" "$1" <"$work/in" 2>&1 >/dev/null |
+    valgrind --tool=callgrind --callgrind-out-file="$work/out" "$binary" "$@" <"$work/in" 2>&1 >/dev/null |
       sed -n 's/.*Collected : *\([0-9]*\).*/\1/p'
   else
-    perf stat -x, -e instructions:u -o "$work/perf" "$binary" "$1" <"$work/in" >/dev/null
+    perf stat -x, -e instructions:u -o "$work/perf" "$binary" "$@" <"$work/in" >/dev/null
     awk -F, '/instructions/ { print $1 }' "$work/perf"
   fi
 }
