@@ -1,5 +1,5 @@
 -- An acceptor of one stream that promises and adopts.
-use Rattle.std.proofs.Common.{◌≡◌, ◌⊎◌, ℕ, zero, suc, ◌+◌, ◌<◌, ◌≤◌, List, [], ◌∷◌, ◌++◌, length, map, All, None, Bool, true, false, nat_lt, refl, sym, ap, ◌∙◌, subst, arith, inl, inr}
+use Rattle.std.proofs.Common.{◌≡◌, ◌⊎◌, ℕ, zero, suc, ◌+◌, ◌<◌, ◌≤◌, List, [], ◌∷◌, ◌++◌, length, map, All, None, true, false, nat_lt, replicate, append-nil, refl, sym, ap, ◌∙◌, subst, arith, inl, inr}
 use Rattle.std.proofs.lemmas.Bool.Decides.{nat_tests}
 use Rattle.rl_paxos.specs.Acceptors.{Acceptor, Kept, HasStream, kept_ballot, prepared, refuses, synced}
 use Rattle.rl_paxos.specs.Logs as bytes
@@ -7,7 +7,10 @@ use Rattle.rl_paxos.specs.Acceptors.{kept_log}
 use Rattle.rl_paxos.specs.Leaders.{Leading, with_ack}
 use Rattle.rl_live.specs.declared.election.Led.{Led}
 use Rattle.rl_live.specs.Run.{acceptor_at}
-use Rattle.rl_live.specs.Elections.{CanPromise, HasLogs, HaveSameLogs, new_led, promising, with_mark, with_node, with_nodes}
+use Rattle.std.proofs.lemmas.Bool.{cases_Bool}
+use Rattle.std.proofs.lemmas.List.{append_assoc, replicate_more}
+use Rattle.rl_paxos.specs.Quorums.{is_node}
+use Rattle.rl_live.specs.Elections.{CanPromise, HasLogs, HaveSameLogs, led_with, new_led, promising, with_node, with_nodes}
 use Rattle.rl_live.proofs.Firsts.{all_map, all_so, map_twice, map_long}
 
 not_below : (m n : ℕ) → n ≤ m → nat_lt m n ≡ false
@@ -84,3 +87,32 @@ pub as_many : (epoch streams : ℕ) (logs : List bytes.Log) (nodes : List (List 
     → All (λ (n : List Acceptor). length n ≡ streams) (map (promising epoch) nodes)
 as_many epoch streams logs nodes same = all_map (λ (n : List Acceptor). length n ≡ streams) (promising epoch) nodes
     (all_so (HasLogs logs) (λ n. length (promising epoch n) ≡ streams) (λ n h. map_long (λ a. prepared a epoch) n ∙ (sym (map_long (λ a. kept_log a 1) n) ∙ (ap length h ∙ same.streams_are))) nodes same.each)
+
+-- ---- what a stream is once all nodes have its log ----
+ack_keeps : (x : Leading) (node len : ℕ) → ((with_ack x node len).log ≡ x.log) × ((with_ack x node len).epoch ≡ x.epoch)
+ack_keeps x node len = elim (cases_Bool (is_node (length x.acked) node)) [ inl t ↦ rw t (refl, refl) | inr t ↦ rw t (refl, refl) ]
+
+nodes_keep : (epoch k : ℕ) (led : Led) → ((with_nodes epoch k led).stream.log ≡ led.stream.log) × ((with_nodes epoch k led).stream.epoch ≡ led.stream.epoch)
+    × ((with_nodes epoch k led).acceptors ≡ led.acceptors ++ replicate k (acceptor_at epoch led.stream.log))
+nodes_keep epoch zero led = (refl, refl, sym (append-nil led.acceptors))
+nodes_keep epoch (suc k) led =
+    let before = with_nodes epoch k led in
+    let h = nodes_keep epoch k led in
+    let a = ack_keeps before.stream (suc k) (length before.stream.log) in
+    let x = acceptor_at epoch led.stream.log in (
+      a.0 ∙ h.0,
+      a.1 ∙ h.1,
+      ap (λ z. z ++ acceptor_at epoch before.stream.log ∷ []) h.2
+          ∙ (ap (λ l. (led.acceptors ++ replicate k x) ++ acceptor_at epoch l ∷ []) h.0
+          ∙ (append_assoc led.acceptors (replicate k x) (x ∷ [])
+          ∙ ap (λ z. led.acceptors ++ z) (replicate_more k x ∙ (let e : k + 1 ≡ suc k = omega arith in ap (λ n. replicate n x) e)))),
+    )
+
+pub led_log : (epoch nodes : ℕ) (log : bytes.Log) → (led_with epoch nodes log).stream.log ≡ log
+led_log epoch nodes log = (nodes_keep epoch nodes (new_led epoch nodes log)).0
+
+pub led_epoch : (epoch nodes : ℕ) (log : bytes.Log) → (led_with epoch nodes log).stream.epoch ≡ epoch
+led_epoch epoch nodes log = (nodes_keep epoch nodes (new_led epoch nodes log)).1
+
+pub led_acceptors : (epoch nodes : ℕ) (log : bytes.Log) → (led_with epoch nodes log).acceptors ≡ replicate nodes (acceptor_at epoch log)
+led_acceptors epoch nodes log = (nodes_keep epoch nodes (new_led epoch nodes log)).2

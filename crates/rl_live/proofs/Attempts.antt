@@ -1,5 +1,5 @@
 -- What a commit leaves, and attempts that were refused before it.
-use Rattle.std.proofs.Common.{◌≡◌, ℕ, ◌+◌, ◌<◌, List, [], ◌∷◌, map, ◌++◌, refl, sym, ap, subst, ◌∙◌, arith}
+use Rattle.std.proofs.Common.{◌≡◌, ℕ, ◌<◌, List, [], ◌∷◌, map, ◌++◌, sym, ap, subst, ◌∙◌, arith}
 use Rattle.rl_base.specs.Stamps.{packed}
 use Rattle.rl_value.specs.Tables.{Table}
 use Rattle.rl_txn.specs.declared.op.Op.{Op}
@@ -12,11 +12,9 @@ use Rattle.rl_occ.specs.declared.outcome.Decided.{Decided}
 use Rattle.rl_store.proofs.Marks.{at_map}
 use Rattle.rl_store.specs.Entries.{In, of_item, drawn_entry}
 use Rattle.rl_store.specs.Passes.{IsAbove}
-use Rattle.rl_store.specs.Views.{IsAtRest}
 use Rattle.rl_store.specs.declared.view.Item as store
 use Rattle.rl_store.specs.declared.view.View.{View}
-use Rattle.rl_live.specs.Attempts.{IsQuiet, IsUndecided, HasDecided, kept_item}
-use Rattle.rl_live.specs.Workers.{right_of}
+use Rattle.rl_live.specs.Attempts.{IsUndecided, HasDecided, kept_item}
 
 -- what is above all entries is above all items
 pub above_items : (v : View) (t : ℕ) → IsAbove v t → (i : store.Item) → In i v.items → i.stamp < t

@@ -1,18 +1,17 @@
 -- Whole logs of all workers: their history is all of their items in order, which are serial, each list's in order.
-use Rattle.std.proofs.Common.{◌≡◌, ◌≢◌, ◌⊎◌, ℕ, zero, suc, ◌+◌, ◌-◌, ◌*◌, ◌^◌, ◌<◌, ◌≤◌, List, [], ◌∷◌, ◌++◌, length, map, sum, get_or, All, AllPairs, Contains, Bool, true, false, ◌==◌, Some, None, refl, sym, ap, ◌∙◌, subst, inl, inr, ⊎_elim, arith, append-nil}
-use Rattle.std.specs.Prelude.{slice_index, slice_get}
+use Rattle.std.proofs.Common.{◌≡◌, ◌≢◌, ℕ, zero, suc, ◌+◌, ◌-◌, ◌^◌, ◌<◌, ◌≤◌, List, [], ◌∷◌, ◌++◌, length, map, get_or, All, Contains, Bool, true, false, ◌==◌, Some, None, refl, sym, ap, ◌∙◌, subst, inl, inr, ⊎_elim, arith, append-nil}
+use Rattle.std.specs.Prelude.{slice_index, slice_get, Option, IsSomeAnd}
 use Rattle.std.specs.List.{AllZip, filter, flat_map, range_with_len}
 use Rattle.std.specs.List.Sorted.{IsStrictlyIncreasing}
-use Rattle.std.proofs.lemmas.Bool.{cases_Bool}
 use Rattle.std.proofs.lemmas.Bool.Decides.{nat_tests}
 use Rattle.std.proofs.lemmas.List.Elements.{filter-append}
-use mathlib.Core.Option.{some, some-ne-none, some-injective}
+use mathlib.Core.Option.{some, some-ne-none}
 use lib.ListN.{get_elem?}
+use Rattle.rl_base.specs.Order.{IsBelow}
 use Rattle.rl_base.specs.Stamps.{packed}
 use Rattle.rl_base.specs.declared.stamp.Stamp.{Stamp}
 use Rattle.rl_base.proofs.Members as members
-use Rattle.rl_value.specs.Tables.{Table}
-use Rattle.rl_txn.specs.Serial.{numbered, indexes_of, IsInLists, IsWhole}
+use Rattle.rl_txn.specs.Serial.{indexes_of, IsInLists, IsWhole}
 use Rattle.rl_txn.specs.declared.batch.Batch.{Batch}
 use Rattle.rl_txn.specs.declared.batch.Batch.TheVariants.{Items, Idle, Opened}
 use Rattle.rl_txn.specs.declared.item.Item.{Item}
@@ -21,24 +20,97 @@ use Rattle.rl_families.specs.Logs.{stamps_in_batch, items_in_batch, stamps_along
 use Rattle.rl_families.specs.Order.{in_order}
 use Rattle.rl_families.specs.Families.{history, is_counted}
 use Rattle.rl_families.specs.Leaders.{open_mark}
-use Rattle.rl_families.specs.Streams.{log_at}
-use Rattle.rl_families.proofs.Logs.{item_stamp, item_stamp_of, back_stamps}
+use Rattle.rl_families.proofs.Logs.{item_stamp, item_stamp_of, back_stamps, stamps_along-append, items_along-append}
 use Rattle.rl_families.proofs.Nesting.{Low, counts_from}
-use Rattle.rl_families.proofs.Rising.{Rises, rises_from, rises_front, rises_back, behind, top_in, top_above, last_seq_among_above}
+use Rattle.rl_families.proofs.Rising.{Rises, rises_from, from_rises, rises_append, rises_front, rises_back, behind, top_in, top_above, last_seq_among_above}
 use Rattle.rl_families.proofs.Sorting.{in_order-filter, in_in_order, in_order_in}
-use Rattle.rl_families.proofs.StampedLogs.{stamps_apart}
 use Rattle.rl_families.proofs.Streams.{in_logs}
-use Rattle.rl_families.proofs.Strict.{Less, Strict, Diff, in_order_strict, map_strict, strict_append, same_members}
+use Rattle.rl_families.proofs.Strict.{Less, Strict, Diff, in_order_strict, map_strict, strict_append, same_members, append_diff, log_diff}
+use Rattle.rl_value.specs.Tables.{Table}
+use Rattle.rl_families.proofs.StampedLogs.{stamps_apart}
 use Rattle.rl_store.specs.declared.view.Item as store
-use Rattle.rl_store.specs.Entries as entries
-use Rattle.rl_live.specs.Decided.{IsItemOf, AreItemsOf}
-use Rattle.rl_live.specs.Jobs.{end_mark, IsWholeLog}
-use Rattle.rl_live.specs.Run.{AreLogsOf, IsLogOf}
+use Rattle.rl_store.specs.Entries as placed
+use Rattle.rl_store.proofs.Seating.{at_append, at_behind}
+use Rattle.rl_value.specs.Rows.{Rows}
+use Rattle.rl_tables.proofs.Places.{place_of_record}
+use Rattle.rl_txn.specs.Fits.{AnswerFits}
+use Rattle.rl_txn.specs.Serial.{request_of, IsSerial}
+use Rattle.rl_store.specs.declared.view.View.{View}
+use Rattle.rl_store.specs.Ends.{EndsAfter}
+use Rattle.rl_store.specs.Entries.{RowOf, entries, of_item, drawn_entry}
+use Rattle.rl_store.specs.Layout.{Opening}
+use Rattle.rl_store.specs.Opening.{opening_of}
+use Rattle.rl_store.specs.Views.{IsAtRest}
+use Rattle.rl_store.proofs.Marks.{at_map}
+use Rattle.rl_store.proofs.Seating.{append_none}
+use Rattle.rl_shared_replay.specs.Replayable.{IsReplayable}
+use Rattle.rl_occ.proofs.Runs.{are_writes}
+use Rattle.rl_live.proofs.ReadLogs.{from_diff}
+use Rattle.rl_live.proofs.Serial.{apart_keys, runs_all, store_after}
+use Rattle.rl_live.specs.Decided.{IsItemOf, AreItemsOf, IsStoreAfter}
+use Rattle.rl_live.specs.Ended.{IsWholeLog, WholeLogs, together, HaveEnded, HasServed}
+use Rattle.rl_live.specs.Workers.{end_mark, IsCommit}
+use Rattle.rl_live.specs.Run.{AreLogsOf, IsLogOf, IsCommitStamp}
 
--- ---- one log ----
+abbrev first_stamp : ℕ → Stamp
+first_stamp epoch = record { epoch = epoch; seq = 1 }
+
 abbrev end_stamp : ℕ → Stamp
 end_stamp epoch = record { epoch = epoch; seq = 2 ^ 40 - 1 }
 
+-- the log of a worker that has done its whole list
+abbrev pub marked : (epoch : ℕ) → List Batch → List Batch
+marked epoch batches = open_mark epoch ∷ (batches ++ end_mark epoch ∷ [])
+
+pub items_marked : (e : ℕ) (batches : List Batch) → items_along (marked e batches) ≡ items_along batches
+items_marked e batches = items_along-append batches (end_mark e ∷ []) ∙ append-nil (items_along batches)
+
+from_in : {X : Type 0} (P : X → Type 0) (xs : List X) → ((x : X) → members.In x xs → P x) → All P xs
+from_in P [] h k d l = absurd (omega arith)
+from_in P (x ∷ xs) h zero d l = h x (inl refl)
+from_in P (x ∷ xs) h (suc k) d l = from_in P xs (λ y i. h y (inr i)) k d (omega arith)
+
+pub whole_of : (e n c : ℕ) (batches : List Batch) → stamps_along batches ≡ map (λ (x : Item). x.stamp) (items_along batches) → IsRising (stamps_along batches)
+    → All (IsCommit e n) (items_along batches) → map (λ (x : Item). x.index) (items_along batches) ≡ range_with_len 1 c → IsWholeLog e n c (marked e batches)
+whole_of e n c batches only rising commits indexes = record {
+  rest = batches ++ end_mark e ∷ [];
+  begins = refl;
+  front = open_mark e ∷ batches;
+  ends = refl;
+  rising = from_rises (stamps_along (marked e batches)) (subst (λ l. Rises ((first_stamp e) ∷ l)) (sym along) rises);
+  epochs = from_in (λ (t : Stamp). t.epoch ≡ e) (stamps_along (marked e batches)) (λ t i. elim (subst (λ l. members.In t ((first_stamp e) ∷ l)) along i) [
+    | inl q ↦ ap (λ (s : Stamp). s.epoch) q
+    | inr j ↦ elim (members.in_split (stamps_along batches) ((end_stamp e) ∷ []) t j) [
+      | inl k ↦ (stamped t k).0
+      | inr k ↦ elim k [ inl q ↦ ap (λ (s : Stamp). s.epoch) q | inr z ↦ absurd z ]
+    ]
+  ]);
+  commits = subst (All (IsCommit e n)) (sym (items_marked e batches)) commits;
+  indexes = ap (map (λ (x : Item). x.index)) (items_marked e batches) ∙ indexes;
+}
+  where
+    along : stamps_along (batches ++ end_mark e ∷ []) ≡ stamps_along batches ++ (end_stamp e) ∷ []
+    along = stamps_along-append batches (end_mark e ∷ [])
+
+    stamped : (t : Stamp) → members.In t (stamps_along batches) → (t.epoch ≡ e) × (2 ≤ t.seq) × (t.seq ≤ 2 ^ 40 - 2)
+    stamped t i =
+        let m = members.map_in (λ (x : Item). x.stamp) t (items_along batches) (subst (λ l. members.In t l) only i) in
+        let x = members.all_in (IsCommit e n) (items_along batches) commits m.0 m.1 in
+        subst (λ (s : Stamp). (s.epoch ≡ e) × (2 ≤ s.seq) × (s.seq ≤ 2 ^ 40 - 2)) m.2 (x.dated, x.low, x.high)
+
+    rises : Rises ((first_stamp e) ∷ (stamps_along batches ++ (end_stamp e) ∷ []))
+    rises = rises_append ((first_stamp e) ∷ []) (stamps_along batches ++ (end_stamp e) ∷ []) (rises_from ((first_stamp e) ∷ []) (λ i j d l m. absurd (omega arith)))
+        (rises_append (stamps_along batches) ((end_stamp e) ∷ []) (rises_from (stamps_along batches) rising) (rises_from ((end_stamp e) ∷ []) (λ i j d l m. absurd (omega arith)))
+        (λ s t i j. elim j [ inl q ↦ subst (λ (u : Stamp). IsBelow s u) (sym q) (let a = stamped s i in inr (a.0, omega (arith, a.2))) | inr z ↦ absurd z ]))
+        (λ s t i j. elim i [
+          | inl q ↦ subst (λ (u : Stamp). IsBelow u t) (sym q) (elim (members.in_split (stamps_along batches) ((end_stamp e) ∷ []) t j) [
+            | inl k ↦ (let a = stamped t k in inr (sym a.0, omega (arith, a.1)))
+            | inr k ↦ elim k [ inl r ↦ subst (λ (u : Stamp). IsBelow (first_stamp e) u) (sym r) (inr (refl, omega arith)) | inr z ↦ absurd z ]
+          ])
+          | inr z ↦ absurd z
+        ])
+
+-- ---- one log ----
 whole_rises : (e n c : ℕ) (log : List Batch) → IsWholeLog e n c log → Rises (stamps_along log)
 whole_rises e n c log w = rises_from (stamps_along log) w.rising
 
@@ -65,7 +137,7 @@ pub log_of : (e n c : ℕ) (log : List Batch) → IsWholeLog e n c log → IsLog
 log_of e n c log w = record {
   last = top_is e n c log w;
   rising = w.rising;
-  own = w.own;
+  own = λ k d l. (w.commits k d l).own;
   opens = λ before after batch t cut has.
       let there = subst (λ l. members.In t (stamps_along l)) cut (back_stamps t before (batch ∷ after) (members.in_prefix (stamps_in_batch batch) (stamps_along after) t (members.contains_in (stamps_in_batch batch) t has))) in
       let mark = ap open_mark (in_epoch e n c log w t there) in
@@ -100,13 +172,6 @@ in_order_same : (xs : List Item) → Strict xs → in_order xs ≡ xs
 in_order_same xs s = same_members (in_order xs) xs (in_order_strict xs (strict_diff xs s)) s (λ x i. in_in_order x xs i) (λ x i. in_order_in x xs i)
 
 -- ---- all logs ----
--- the logs of workers n and so on, each with all requests of its list
-abbrev pub WholeLogs : (epoch n : ℕ) → List (List (List Op)) → List (List Batch) → Type 0
-WholeLogs epoch n [] [] = Unit {0}
-WholeLogs epoch n [] (log ∷ logs) = ⊥
-WholeLogs epoch n (list ∷ lists) [] = ⊥
-WholeLogs epoch n (list ∷ lists) (log ∷ logs) = IsWholeLog epoch n (length list) log × WholeLogs epoch (suc n) lists logs
-
 whole_in : (e n : ℕ) (lists : List (List (List Op))) (family : List (List Batch)) → WholeLogs e n lists family → (log : List Batch) → members.In log family
     → (m : ℕ) × (c : ℕ) × IsWholeLog e m c log
 whole_in e n [] [] w log i = absurd i
@@ -164,13 +229,13 @@ is_not : (w n : ℕ) → w ≢ n → (n == w) ≡ false
 is_not w n h = grind (arith, nat_tests)
 
 own_true : (e n c : ℕ) (log : List Batch) → IsWholeLog e n c log → filter (λ (x : Item). x.worker == n) (items_along log) ≡ items_along log
-own_true e n c log w = filter_all (λ (x : Item). x.worker == n) (items_along log) (λ x i. same x.worker (members.all_in (λ (y : Item). y.worker ≡ n) (items_along log) w.own x i))
+own_true e n c log w = filter_all (λ (x : Item). x.worker == n) (items_along log) (λ x i. same x.worker (members.all_in (IsCommit e n) (items_along log) w.commits x i).own)
   where
     same : (m : ℕ) → m ≡ n → (m == n) ≡ true
     same m h = grind (arith, nat_tests)
 
 own_false : (e n c w : ℕ) (log : List Batch) → IsWholeLog e n c log → w ≢ n → filter (λ (x : Item). x.worker == w) (items_along log) ≡ []
-own_false e n c w log h d = filter_none (λ (x : Item). x.worker == w) (items_along log) (λ x i. other x.worker (members.all_in (λ (y : Item). y.worker ≡ n) (items_along log) h.own x i))
+own_false e n c w log h d = filter_none (λ (x : Item). x.worker == w) (items_along log) (λ x i. other x.worker (members.all_in (IsCommit e n) (items_along log) h.commits x i).own)
   where
     other : (m : ℕ) → m ≡ n → (m == w) ≡ false
     other m q = subst (λ z. (z == w) ≡ false) (sym q) (is_not w n d)
@@ -261,53 +326,127 @@ packed_rises (x ∷ (y ∷ ys)) s h (suc k) a =
     subst (λ z. slice_index (map (λ (i : Item). packed i.stamp) (y ∷ ys)) k < slice_index (map (λ (i : Item). packed i.stamp) (x ∷ (y ∷ ys))) z) (sym e)
     (packed_rises (y ∷ ys) s.1 (λ z i. h z (inr i)) k (omega arith))
 
--- ---- items beside those of a pass ----
+-- ---- items beside those of the passes ----
 -- no two have one stamp
 abbrev pub NoTwo : List store.Item → Type 0
 NoTwo kept = (p q : ℕ) (i j : store.Item) → get_elem? kept p ≡ some i → get_elem? kept q ≡ some j → i.stamp ≡ j.stamp → p ≡ q
 
-module _ (tables : List Table) (lists : List (List (List Op))) where
-  abbrev Zip : List Item → List store.Item → Type 0
-  Zip xs kept = AllZip (IsItemOf tables lists) xs kept
+front_at : {X : Type 0} (xs ys : List X) (p : ℕ) (x : X) → get_elem? xs p ≡ some x → (get_elem? (xs ++ ys) p ≡ some x) × (p < length xs)
+front_at [] ys p x e = absurd (some-ne-none x (sym e))
+front_at (z ∷ xs) ys zero x e = (e, omega arith)
+front_at (z ∷ xs) ys (suc p) x e = let r = front_at xs ys p x e in (r.0, omega (arith, r.1))
 
-  pub zip_left : (xs : List Item) (kept : List store.Item) → Zip xs kept → (x : Item) → members.In x xs → (i : store.Item) × entries.In i kept × IsItemOf tables lists x i
-  zip_left [] kept z x i = absurd i
-  zip_left (y ∷ ys) [] z x i = absurd z
-  zip_left (y ∷ ys) (k ∷ ks) z x i = elim i [
-    | inl q ↦ (k, (0, refl), subst (λ w. IsItemOf tables lists w k) (sym q) z.0)
-    | inr j ↦ (let r = zip_left ys ks z.1 x j in (r.0, (suc r.1.0, r.1.1), r.2))
+module _ (tables : List Table) (lists : List (List (List Op))) where
+  -- each log has the items of a pass
+  abbrev pub Kept : List (List Batch) → List (List store.Item) → Type 0
+  Kept family ks = AllZip (λ log k. AreItemsOf tables lists (items_along log) k) family ks
+
+  pub kept_of : (family : List (List Batch)) (ks : List (List store.Item)) → Kept family ks → (x : Item) → members.In x (flat_map items_along family)
+      → (i : store.Item) × placed.In i (together ks) × IsItemOf tables lists x i
+  kept_of [] ks z x i = absurd i
+  kept_of (l ∷ ls) [] z x i = absurd z
+  kept_of (l ∷ ls) (k ∷ ks) z x i = elim (members.in_split (items_along l) (flat_map items_along ls) x i) [
+    | inl j ↦ (let r = z.0.kept_of x (members.in_contains (items_along l) x j) in (r.0, (r.1.0, (front_at k (together ks) r.1.0 r.0 r.1.1).0), r.2))
+    | inr j ↦ (let r = kept_of ls ks z.1 x j in (r.0, (length k + r.1.0, at_behind k (together ks) r.1.0 r.0 r.1.1), r.2))
   ]
 
-  pub zip_right : (xs : List Item) (kept : List store.Item) → Zip xs kept → (i : store.Item) → entries.In i kept → (x : Item) × members.In x xs × IsItemOf tables lists x i
-  zip_right [] [] z i p = absurd (some-ne-none i (sym p.1))
-  zip_right [] (k ∷ ks) z i p = absurd z
-  zip_right (y ∷ ys) [] z i p = absurd z
-  zip_right (y ∷ ys) (k ∷ ks) z i (zero, q) = (y, inl refl, subst (λ w. IsItemOf tables lists y w) (some-injective k i q) z.0)
-  zip_right (y ∷ ys) (k ∷ ks) z i (suc n, q) = let r = zip_right ys ks z.1 i (n, q) in (r.0, inr r.1, r.2)
+  pub item_of : (family : List (List Batch)) (ks : List (List store.Item)) → Kept family ks → (i : store.Item) (p : ℕ) → get_elem? (together ks) p ≡ some i
+      → (x : Item) × members.In x (flat_map items_along family) × IsItemOf tables lists x i
+  item_of [] [] z i p e = absurd (some-ne-none i (sym e))
+  item_of [] (k ∷ ks) z i p e = absurd z
+  item_of (l ∷ ls) [] z i p e = absurd z
+  item_of (l ∷ ls) (k ∷ ks) z i p e = ⊎_elim
+      (λ (q : get_elem? k p ≡ some i). let r = z.0.item_of i (p, q) in
+      (r.0, members.in_prefix (items_along l) (flat_map items_along ls) r.0 (members.contains_in (items_along l) r.0 r.1), r.2))
+      (λ (q : (m : ℕ) × (p ≡ length k + m) × (get_elem? (together ks) m ≡ some i)). let r = item_of ls ks z.1 i q.0 q.2 in
+      (r.0, members.in_suffix (items_along l) (flat_map items_along ls) r.0 r.1, r.2))
+      (at_append k (together ks) p i e)
 
-  pub zip_diff : (xs : List Item) (kept : List store.Item) → Zip xs kept → NoTwo kept → Diff xs
-  zip_diff [] kept z n = tt
-  zip_diff (x ∷ xs) [] z n = absurd z
-  zip_diff (x ∷ xs) (k ∷ ks) z n = (
-    λ y m. stamps_apart x y (λ q.
-        let r = zip_left xs ks z.1 y m in
-        let f : k.stamp ≡ r.0.stamp = z.0.stamp ∙ (ap packed q ∙ sym r.2.stamp) in
-        let g = n 0 (suc r.1.0) k r.0 refl r.1.1 f in
-        omega arith),
-    zip_diff xs ks z.1 (λ p q a b u v w. let g = n (suc p) (suc q) a b u v w in omega arith),
-  )
+  pub are_items : (family : List (List Batch)) (ks : List (List store.Item)) → Kept family ks → AreItemsOf tables lists (in_order (flat_map items_along family)) (together ks)
+  are_items family ks z =
+      let flat = flat_map items_along family in
+      record {
+        kept_of = λ x c. kept_of family ks z x (in_in_order x flat (members.contains_in (in_order flat) x c));
+        item_of = λ i p. (let r = item_of family ks z i p.0 p.1 in (r.0, members.in_contains (in_order flat) r.0 (in_order_in r.0 flat r.1), r.2));
+      }
 
-  pub zip_append : (xs ys : List Item) (ks ls : List store.Item) → Zip xs ks → Zip ys ls → Zip (xs ++ ys) (ks ++ ls)
-  zip_append [] ys [] ls a b = b
-  zip_append [] ys (k ∷ ks) ls a b = absurd a
-  zip_append (x ∷ xs) ys [] ls a b = absurd a
-  zip_append (x ∷ xs) ys (k ∷ ks) ls a b = (a.0, zip_append xs ys ks ls a.1 b)
+  pub small : (family : List (List Batch)) (ks : List (List store.Item)) → Kept family ks → (x : Item) → members.In x (flat_map items_along family) → x.stamp.seq < 2 ^ 40
+  small family ks z x i = (kept_of family ks z x i).2.seq
 
-  pub zip_items : (flat : List Item) (kept : List store.Item) → Zip flat kept → AreItemsOf tables lists (in_order flat) kept
-  zip_items flat kept z = record {
-    kept_of = λ x c. zip_left flat kept z x (in_in_order x flat (members.contains_in (in_order flat) x c));
-    item_of = λ i p. (let r = zip_right flat kept z i p in (r.0, members.in_contains (in_order flat) r.0 (in_order_in r.0 flat r.1), r.2));
+  pub all_differ : (family : List (List Batch)) (ks : List (List store.Item)) → Kept family ks → ((log : List Batch) → members.In log family → Rises (stamps_along log)) → NoTwo (together ks)
+      → Diff (flat_map items_along family)
+  all_differ [] ks z r n = tt
+  all_differ (l ∷ ls) [] z r n = absurd z
+  all_differ (l ∷ ls) (k ∷ ks) z r n = append_diff (items_along l) (flat_map items_along ls) (log_diff l (r l (inl refl)))
+      (all_differ ls ks z.1 (λ m i. r m (inr i)) (λ p q a b u v w. let g = n (length k + p) (length k + q) a b (at_behind k (together ks) p a u) (at_behind k (together ks) q b v) w in omega arith))
+      (λ x y i j. stamps_apart x y (λ e.
+      let a = z.0.kept_of x (members.in_contains (items_along l) x i) in
+      let b = kept_of ls ks z.1 y j in
+      let f : a.0.stamp ≡ b.0.stamp = a.2.stamp ∙ (ap packed e ∙ sym b.2.stamp) in
+      let at = front_at k (together ks) a.1.0 a.0 a.1.1 in
+      let g = n a.1.0 (length k + b.1.0) a.0 b.0 at.0 (at_behind k (together ks) b.1.0 b.0 b.1.1) f in
+      let h = at.1 in
+      omega arith))
+
+-- ---- all together ----
+pub some_and : {X : Type 0} (o : Option X) (P : X → Type 0) → IsSomeAnd o P → (x : X) × (o ≡ Some x) × P x
+some_and None P h = absurd h
+some_and (Some x) P h = (x, refl, h)
+
+replayable : (tables : List Table) (lists : List (List (List Op))) (x : Item) (i : store.Item) → IsItemOf tables lists x i → 1 ≤ x.stamp.epoch → x.stamp.epoch < 2 ^ 20 → IsReplayable tables x
+replayable tables lists x i it low high =
+    let t = some_and (request_of lists x) (λ txn. AnswerFits tables txn x.reply x.writes) it.fits in
+    record { epoch_low = low; epoch_high = high; seq = it.seq; fit = t.2.fit; apart = apart_keys tables x.writes (are_writes tables place_of_record x.writes t.2.fit t.2.rising) }
+
+no_two : (b : Opening) (v : View) (words : List ℕ) (closed : List RowOf) → IsAtRest v → EndsAfter b v words closed → NoTwo v.items
+no_two b v words closed rest ends p q i j u w e =
+    let same : entries v ≡ map of_item v.items = ap (λ a. map of_item v.items ++ drawn_entry a a.drawn) rest ∙ append_none (map of_item v.items) in
+    ends.differ (of_item i) (of_item j) p q (subst (λ l. get_elem? l p ≡ some (of_item i)) (sym same) (at_map of_item v.items p i u)) (subst (λ l. get_elem? l q ≡ some (of_item j)) (sym same) (at_map of_item v.items q j w)) e
+
+module _ (tables : List Table) (lists : List (List (List Op))) (rows : Rows) (epoch : ℕ) (family : List (List Batch)) (e : HaveEnded tables lists rows epoch family) where
+  abbrev all : List Item
+  all = flat_map items_along family
+
+  apart : NoTwo (together e.passes)
+  apart = subst (λ l. NoTwo l) e.items (no_two (opening_of e.made) e.view e.words e.closed e.rest e.ends)
+
+  rise : (log : List Batch) → members.In log family → Rises (stamps_along log)
+  rise log i = let v = whole_in epoch 1 lists family e.whole log i in whole_rises epoch v.0 v.1 log v.2
+
+  diff : Diff all
+  diff = all_differ tables lists family e.passes e.kept rise apart
+
+  strict : Strict (in_order all)
+  strict = in_order_strict all diff
+
+  are : AreItemsOf tables lists (in_order all) e.view.items
+  are = subst (AreItemsOf tables lists (in_order all)) (sym e.items) (are_items tables lists family e.passes e.kept)
+
+  is : history family ≡ in_order all
+  is = history_is epoch 1 lists family e.begun e.whole (small tables lists family e.passes e.kept)
+
+  commit_of : (x : Item) → members.In x all → IsCommitStamp epoch x.stamp
+  commit_of x i =
+      let l = in_logs x family i in
+      let v = whole_in epoch 1 lists family e.whole l.0 l.1 in
+      let c = members.all_in (IsCommit epoch v.0) (items_along l.0) v.2.commits x l.2 in
+      let d = c.dated in
+      let b = e.begun in
+      record { some_epoch = omega arith; few_epochs = omega arith; low = c.low; high = c.high }
+
+  pub served : HasServed tables lists rows epoch family e
+  served = record {
+    logs = are_logs epoch lists family e.whole;
+    serial = subst (IsSerial tables lists rows) (sym is) record {
+      rising = packed_rises (in_order all) strict (λ x i. small tables lists family e.passes e.kept x (in_in_order x all i));
+      runs = runs_all tables lists rows e.made e.view e.words e.closed (in_order all) e.opens e.rest e.ends strict are;
+    };
+    in_lists = subst (λ l. IsInLists l) (sym is) (in_lists epoch lists family e.whole);
+    whole = subst (IsWhole lists) (sym is) (whole_lists epoch lists family e.whole);
+    stamps = subst (All (λ (x : Item). IsCommitStamp epoch x.stamp)) (sym is) (from_in (λ (x : Item). IsCommitStamp epoch x.stamp) (in_order all) (λ x i. commit_of x (in_in_order x all i)));
+    store = subst (λ l. IsStoreAfter tables rows e.made l e.words e.closed) (sym is) (store_after tables lists rows e.made e.view e.words e.closed (in_order all) e.opens e.rest e.ends strict are);
+    replays = record {
+      fit = from_in (IsReplayable tables) all (λ x i. let k = kept_of tables lists family e.passes e.kept x i in let s = commit_of x i in let f = e.few in replayable tables lists x k.0 k.2 s.some_epoch (let a = s.few_epochs in omega arith));
+      distinct = from_diff all diff;
+    };
   }
-
-  pub zip_small : (flat : List Item) (kept : List store.Item) → Zip flat kept → (x : Item) → members.In x flat → x.stamp.seq < 2 ^ 40
-  zip_small flat kept z x i = (zip_left flat kept z x i).2.seq

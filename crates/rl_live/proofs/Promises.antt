@@ -1,6 +1,6 @@
 -- What is recovered where all nodes promise with the same logs.
-use Rattle.std.proofs.Common.{◌≡◌, ◌⊎◌, ℕ, not, ◌&&◌, ◌||◌, nat_le, inl, inr, zero, suc, ◌+◌, ◌-◌, ◌<◌, ◌≤◌, List, [], ◌∷◌, ◌++◌, length, map, take, All, get_or, Bool, true, false, cond, ◌==◌, refl, sym, ap, ◌∙◌, subst, arith}
-use Rattle.std.specs.List.{best_of, list_any}
+use Rattle.std.proofs.Common.{◌≡◌, ◌⊎◌, ℕ, not, ◌&&◌, nat_le, inl, inr, zero, suc, ◌+◌, ◌-◌, ◌≤◌, List, [], ◌∷◌, ◌++◌, length, map, take, All, get_or, Bool, true, false, cond, ◌==◌, refl, sym, ap, ◌∙◌, subst, arith}
+use Rattle.std.specs.List.{best_of}
 use Rattle.std.proofs.lemmas.Bool.{cases_Bool, or_from, cond-true}
 use Rattle.std.proofs.lemmas.Bool.Decides.{nat_tests}
 use Rattle.std.proofs.lemmas.List.{take_more}

@@ -1,11 +1,11 @@
 -- What a closed store tells of the items of its pass: they are serial by stamp, and it ends as after them.
-use Rattle.std.proofs.Common.{◌≡◌, ◌⊎◌, ℕ, zero, suc, ◌+◌, ◌*◌, ◌^◌, ◌<◌, ◌≤◌, List, [], ◌∷◌, ◌++◌, length, map, sum, get_or, All, AllPairs, Contains, Bool, true, false, cond, ◌==◌, Option, refl, sym, ap, ◌∙◌, subst, inl, inr, ⊎_elim, arith, true≢false}
+use Rattle.std.proofs.Common.{◌≡◌, ◌⊎◌, ℕ, zero, suc, ◌+◌, ◌^◌, ◌<◌, ◌≤◌, List, [], ◌∷◌, ◌++◌, length, map, sum, get_or, AllPairs, Bool, true, false, cond, ◌==◌, Option, refl, sym, ap, ◌∙◌, subst, inl, inr, ⊎_elim, arith}
 use Rattle.std.specs.Prelude.{Some, None, slice_index, slice_index_or, IsSomeAnd}
 use Rattle.std.specs.List.{list_any}
 use Rattle.std.specs.FinMap.{get}
 use Rattle.std.proofs.lemmas.Bool.{cases_Bool}
 use Rattle.std.proofs.lemmas.Bool.Decides.{nat_tests}
-use Rattle.std.proofs.lemmas.List.{append_assoc, append-nil, length-map}
+use Rattle.std.proofs.lemmas.List.{append_assoc, length-map}
 use mathlib.Core.Option.{some, some-ne-none, some-injective}
 use lib.ListN.{get_elem?}
 use Rattle.rl_base.specs.Stamps.{packed}
@@ -14,14 +14,14 @@ use Rattle.rl_base.proofs.Members as members
 use Rattle.rl_base.proofs.OrderLemmas.{packed_below}
 use Rattle.rl_value.specs.Cells.{row_of}
 use Rattle.rl_value.specs.Rows.{Rows}
-use Rattle.rl_value.specs.Tables.{Table, size_of}
+use Rattle.rl_value.specs.Tables.{Table}
 use Rattle.rl_tables.specs.Numbers.{sizes_of, record_of, place_of}
 use Rattle.rl_tables.proofs.Places.{place_of_record, place_there}
 use Rattle.rl_tables.proofs.Sizes.{size_at}
 use Rattle.rl_txn.proofs.Folds.{rows_after-append}
 use Rattle.rl_txn.specs.Fits.{AnswerFits}
 use Rattle.rl_txn.specs.Run.{run}
-use Rattle.rl_txn.specs.Serial.{Runs, request_of, rows_after, after_writes}
+use Rattle.rl_txn.specs.Serial.{Runs, request_of, rows_after}
 use Rattle.rl_txn.specs.declared.item.Item.{Item}
 use Rattle.rl_txn.specs.declared.op.Op.{Op}
 use Rattle.rl_txn.specs.declared.write.Write.{Write}
@@ -30,7 +30,6 @@ use Rattle.rl_replay.specs.Replay.{is_at}
 use Rattle.rl_replay.proofs.Places.{left_by, left_not, get-rows_after, at_same, at_self}
 use Rattle.rl_worker.specs.Stamping as stamping
 use Rattle.rl_store.specs.declared.view.Item as store
-use Rattle.rl_store.specs.declared.view.Read.{Read}
 use Rattle.rl_store.specs.declared.view.View.{View}
 use Rattle.rl_store.specs.declared.view.Write as stored
 use Rattle.rl_store.specs.Ends.{EndsAfter, IsNewest}

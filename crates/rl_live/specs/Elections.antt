@@ -4,7 +4,7 @@ use Rattle.rl_base.specs.declared.limit.TheConstants.{SLOTS}
 use Rattle.rl_batch.specs.Encoding.{batch_bytes}
 use Rattle.rl_families.specs.Leaders.{open_mark}
 use Rattle.rl_paxos.specs.Acceptors.{Acceptor, kept_ballot, kept_log, prepared}
-use Rattle.rl_paxos.specs.Leaders.{Leading, new_leading, with_ack}
+use Rattle.rl_paxos.specs.Leaders.{new_leading, with_ack}
 use Rattle.rl_paxos.specs.Logs as bytes
 use Rattle.rl_live.specs.declared.election.Led.{Led}
 use Rattle.rl_live.specs.Run.{acceptor_at}

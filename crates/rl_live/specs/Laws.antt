@@ -3,6 +3,7 @@ use Rattle.std.specs.Prelude.{ℕ, List, map}
 use Rattle.rl_value.specs.Rows.{Rows}
 use Rattle.rl_value.specs.Tables.{Table}
 use Rattle.rl_txn.specs.Serial.{Runs}
+use Rattle.rl_txn.specs.declared.batch.Batch.{Batch}
 use Rattle.rl_txn.specs.declared.item.Item.{Item}
 use Rattle.rl_txn.specs.declared.op.Op.{Op}
 use Rattle.rl_families.specs.Logs.{IsRising}
@@ -12,6 +13,7 @@ use Rattle.rl_store.specs.Entries.{RowOf}
 use Rattle.rl_store.specs.Opening.{Made, opening_of}
 use Rattle.rl_store.specs.Views.{IsAtRest}
 use Rattle.rl_live.specs.Decided.{OpensWithRows, AreItemsOf, IsStoreAfter}
+use Rattle.rl_live.specs.Ended.{HaveEnded, HasServed}
 
 -- a store that was closed with a pass at rest which has all items, and the items by rising stamp
 pub record IsClosedWith (tables : List Table) (lists : List (List (List Op))) (rows : Rows) (items : List Item) : Type 0 where
@@ -30,3 +32,8 @@ abbrev pub DecidedItemsAreSerial : Type 0
 DecidedItemsAreSerial = (tables : List Table) (lists : List (List (List Op))) (rows : Rows) (items : List Item)
     → (c : IsClosedWith tables lists rows items)
     → Runs tables lists rows items × IsStoreAfter tables rows c.made items c.words c.closed
+
+-- where all workers of an epoch have ended, the history of their logs serves all requests
+abbrev pub EndedWorkersHaveServed : Type 0
+EndedWorkersHaveServed = (tables : List Table) (lists : List (List (List Op))) (rows : Rows) (epoch : ℕ) (family : List (List Batch))
+    → (e : HaveEnded tables lists rows epoch family) → HasServed tables lists rows epoch family e

@@ -1,7 +1,12 @@
 pub mod Attempts
 pub mod Decided
-pub mod Laws
-pub mod Run
 pub mod Elections
-pub mod Jobs
+pub mod Ended
+pub mod Handing
+pub mod Laws
+pub mod Reading
+pub mod Run
+pub mod Sending
+pub mod Spreading
+pub mod Turns
 pub mod Workers

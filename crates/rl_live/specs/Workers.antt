@@ -1,8 +1,8 @@
 -- What one worker's thread is given, and what it hands back.
-use Rattle.std.specs.Prelude.{◌≡◌, ℕ, ◌+◌, ◌*◌, ◌-◌, ◌^◌, ◌≤◌, List, [], ◌∷◌, ◌++◌, length, map, All, Some}
+use Rattle.std.specs.Prelude.{◌≡◌, ℕ, ◌+◌, ◌-◌, ◌^◌, ◌≤◌, List, [], ◌∷◌, ◌++◌, length, map, All, Some}
 use Rattle.std.specs.List.{range_with_len}
 use Rattle.atomic_table.specs.Seated.{TableId}
-use Rattle.rl_base.specs.declared.limit.TheConstants.{SLOTS, WORKERS}
+use Rattle.rl_base.specs.declared.limit.TheConstants.{NODES, SLOTS}
 use Rattle.rl_value.specs.Tables.{Table, IsSchema}
 use Rattle.rl_txn.specs.Fits.{ListsFit}
 use Rattle.rl_txn.specs.Serial.{numbered}
@@ -42,15 +42,14 @@ pub record IsCommit (epoch worker : ℕ) (x : Item) : Type 0 where
   pub low : 2 ≤ x.stamp.seq
   pub high : x.stamp.seq ≤ 2 ^ 40 - 2
 
-module _ (tables : List Table) (lists : List (List (List Op))) where
-  -- a worker is given its list, a pass at rest with nothing done, its stream with the same log at every node, and a seat
+module _ (tables : List Table) where
+  -- a worker is given all lists, of which one is its own, a pass at rest with nothing done, its stream with the same log at every node, and a seat
   pub record IsSetUp (store : StoreOf) (progress : TableId) (w : Worker) : Type 0 where
     pub schema : IsSchema tables
-    pub lists_fit : ListsFit tables lists
+    pub lists_fit : ListsFit tables w.lists.now
     pub store_is : IsStoreOf store.made tables
     pub begun : 1 ≤ store.made.epoch
-    pub number : (1 ≤ w.number) × (w.number ≤ WORKERS)
-    pub list_is : numbered lists w.number ≡ Some w.list.now
+    pub number : (1 ≤ w.number) × (w.number ≤ length w.lists.now)
     pub some : 1 ≤ w.batch
     pub few : w.batch ≤ 64
     pub own : w.pass.table ≡ store.table
@@ -58,7 +57,9 @@ module _ (tables : List Table) (lists : List (List (List Op))) where
     pub none : w.pass.view.items ≡ []
     pub leads : w.stream.epoch ≡ store.made.epoch
     pub have : AllHave store.made.epoch w.stream.log w.acceptors
-    pub room : length w.stream.log + length w.list.now + 1 ≤ SLOTS
+    pub few_nodes : length w.acceptors ≤ NODES
+    pub room : (list : List (List Op)) → numbered w.lists.now w.number ≡ Some list
+        → length w.stream.log + length list + 1 ≤ SLOTS
     pub seated : w.seat.table ≡ progress
     pub publishes : IsPublisher w.seat.view
     pub nothing : w.seat.view.last ≡ 0
@@ -75,9 +76,10 @@ module _ (tables : List Table) (lists : List (List (List Op))) where
     pub only : stamps_along batches ≡ map (λ x. x.stamp) (items_along batches)
     pub rising : IsRising (stamps_along batches)
     pub commits : All (IsCommit store.made.epoch w.number) (items_along batches)
-    pub in_order : map (λ x. x.index) (items_along batches) ≡ range_with_len 1 (length w.list.now)
+    pub in_order : (list : List (List Op)) → numbered w.lists.now w.number ≡ Some list
+        → map (λ x. x.index) (items_along batches) ≡ range_with_len 1 (length list)
     -- the pass rests with these items
     pub own : d.pass.table ≡ store.table
     pub rest : IsAtRest d.pass.view
     pub right : right_of d.pass.view ≡ right_of w.pass.view
-    pub are : AreItemsOf tables lists (items_along batches) d.pass.view.items
+    pub are : AreItemsOf tables w.lists.now (items_along batches) d.pass.view.items

@@ -4,7 +4,14 @@
 mod attempt;
 pub mod election;
 pub mod gate;
-pub mod job;
+mod handing;
+mod history;
+mod join;
 pub mod laws;
+mod line;
+mod open;
 pub mod run;
+pub mod session;
+mod tables;
+mod work;
 pub mod worker;

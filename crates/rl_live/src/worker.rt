@@ -5,15 +5,15 @@ use rl_net::link::Link;
 use rl_progress::seat::Seat;
 use rl_store::pass::Pass;
 use rl_stream::leader_stream::LeaderStream;
-use rl_txn::op::Requests;
+use rl_txn::op::Lists;
 
 /// A worker, before it has done anything.
 #[derive(Drop)]
 pub struct Worker<'a> {
     /// Its number, from 1: its stream has the same.
     pub number: u32,
-    /// Its requests.
-    pub list: &'a Requests,
+    /// The requests of all workers: the list of its number is its own.
+    pub lists: &'a Lists,
     /// How many items go into a batch, 1 to 64.
     pub batch: u32,
     /// Its part in the store.

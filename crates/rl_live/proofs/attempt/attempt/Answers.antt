@@ -1,4 +1,4 @@
-use Rattle.std.proofs.Common.{Ok, Result, IfOk, ap, subst}
+use Rattle.std.proofs.Common.{Result, IfOk, ap, subst}
 use Rattle.rl_occ.specs.Attempts.{AttemptOf, IsCommitted}
 use Rattle.rl_occ.specs.declared.attempt.Phase.{Phase}
 use Rattle.rl_occ.specs.declared.outcome.CommitError.{CommitError}

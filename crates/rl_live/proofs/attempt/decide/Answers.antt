@@ -1,4 +1,4 @@
-use Rattle.std.proofs.Common.{Some, Option, MatchOption, subst}
+use Rattle.std.proofs.Common.{Option, MatchOption, subst}
 use Rattle.rl_live.specs.Attempts.{IsUndecided, HasDecided}
 use Rattle.rl_occ.specs.declared.outcome.Decided.{Decided}
 use Rattle.rl_live.proofs.Attempts.{decided_after}

@@ -1,5 +1,4 @@
 use Rattle.std.proofs.Common.{◌≡◌}
-use Rattle.rl_store.specs.Views.{IsAtRest}
 use Rattle.rl_live.specs.Attempts.{IsUndecided}
 use Rattle.rl_live.proofs.attempt.decide.Given as goal
 

@@ -1,6 +1,6 @@
-use Rattle.std.proofs.Common.{◌≡◌, ℕ, List, length, map, All, ap, sym, subst, ◌∙◌, refl, arith}
+use Rattle.std.proofs.Common.{◌≡◌, List, length, map, All, ap, sym, subst, ◌∙◌, arith}
 use Rattle.rl_paxos.specs.Acceptors.{Acceptor}
-use Rattle.rl_live.specs.Elections.{CanPromise, HaveSameLogs, new_led, promising, with_mark, with_nodes, led_with}
+use Rattle.rl_live.specs.Elections.{CanPromise, new_led, promising, with_mark, with_nodes}
 use Rattle.rl_live.proofs.Firsts.{map_long, map_twice}
 use Rattle.rl_live.proofs.Adopting.{still_nodes, as_many}
 use Rattle.rl_live.proofs.election.elect.Goals as goal

@@ -1,4 +1,4 @@
-use Rattle.std.proofs.Common.{◌≡◌, ℕ, ◌<◌, ◌+◌, length, get_or, ap, sym, subst, ◌∙◌, arith, None}
+use Rattle.std.proofs.Common.{◌≡◌, ◌<◌, length, get_or, ap, sym, subst, ◌∙◌, arith, None}
 use lib.ListN.{set}
 use Rattle.rl_paxos.specs.Acceptors.{Acceptor, prepared, refuses}
 use Rattle.rl_live.specs.Elections.{CanPromise}

@@ -1,4 +1,4 @@
-use Rattle.std.proofs.Common.{◌≡◌, ◌⊎◌, All}
+use Rattle.std.proofs.Common.{◌≡◌, All}
 use Rattle.rl_live.specs.Elections.{CanPromise, promising}
 use Rattle.rl_live.proofs.election.promise.Given as goal
 

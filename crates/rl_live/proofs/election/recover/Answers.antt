@@ -1,11 +1,11 @@
-use Rattle.std.proofs.Common.{◌≡◌, ℕ, [], ◌∷◌, ◌++◌, ◌+◌, ◌/◌, Err, ◌≤◌, ◌<◌, length, map, refl, ap, sym, subst, ◌∙◌, arith, length-append, append-nil}
+use Rattle.std.proofs.Common.{◌≡◌, ℕ, [], ◌∷◌, ◌++◌, ◌+◌, ◌/◌, Err, ◌≤◌, ◌<◌, length, map, ap, sym, subst, ◌∙◌, arith, length-append, append-nil}
 use Rattle.std.proofs.lemmas.List.{append_assoc}
 use Rattle.std.specs.Vec.Iter.{into_iter_items}
 use Rattle.rl_election.specs.declared.recover_error.RecoverError.TheVariants.{NotYet}
-use Rattle.rl_paxos.specs.Recovery.{Candidate, recovered_logs, with_promise}
+use Rattle.rl_paxos.specs.Recovery.{Candidate, recovered_logs}
 use Rattle.rl_live.specs.Elections.{promising}
 use Rattle.rl_live.proofs.Firsts.{map_more, map_long}
-use Rattle.rl_live.proofs.Promises.{promise_of, promises_from, counted, recovered_same, promises_long}
+use Rattle.rl_live.proofs.Promises.{promises_from, counted, recovered_same, promises_long}
 use Rattle.rl_shared_replay.proofs.Wholes.{no_more}
 use Rattle.rl_live.proofs.election.recover.Goals as goal
 

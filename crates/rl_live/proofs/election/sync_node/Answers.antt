@@ -1,8 +1,7 @@
-use Rattle.std.proofs.Common.{◌≡◌, ℕ, List, [], ◌∷◌, ◌++◌, ◌<◌, ◌+◌, length, get_or, ap, sym, ◌∙◌, arith, length-append, append-nil}
+use Rattle.std.proofs.Common.{◌≡◌, [], ◌∷◌, ◌++◌, ◌<◌, length, get_or, ap, sym, ◌∙◌, arith, length-append, append-nil}
 use Rattle.std.proofs.lemmas.List.{append_assoc}
 use Rattle.std.specs.Vec.Iter.{into_iter_items}
 use lib.ListN.{set}
-use Rattle.rl_live.specs.declared.election.Led.{Led}
 use Rattle.rl_live.specs.Elections.{with_node}
 use Rattle.rl_live.proofs.Firsts.{firsts, firsts_next, firsts_more, firsts_all, firsts_length, one_more}
 use Rattle.rl_shared_replay.proofs.Wholes.{no_more}
