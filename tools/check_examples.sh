@@ -4,7 +4,7 @@
 # alone. A script of examples/faults/ prints by all three the line of the file .out beside it, with the status of a fault
 # or of a limit. Two scripts that are written here pass the limits of a run by `sim`. A script with a report of
 # examples/checks/ prints by `check` the line of the file .out beside it, with the status of that line. The run of a
-# generated script prints examples/generated_run.out. Words that are no command print examples/usage.out. A line for each difference; status 1 where there is one.
+# generated script prints examples/generated_run.out. What `live` reports of a script examples/NAME.rolis, `check` finds right. Words that are no command print examples/usage.out. A line for each difference; status 1 where there is one.
 set -u
 top=$(cd "$(dirname "$0")/.." && pwd)
 binary=$top/crates/rl_cli/out/rl_cli
@@ -43,6 +43,22 @@ for script in "$top"/examples/*.rolis; do
   for command in serial steps sim; do
     check 0 "${script%.rolis}.$command.out" "$script" "$command"
   done
+done
+
+# live SCRIPT: runs a script by threads; its report differs from run to run, and has to be right.
+live() {
+  (cat "$1"; echo; echo report; "$binary" live <"$1") | grep -v '^$' >"$work/run"
+  "$binary" check <"$work/run" >"$told"
+  if [ $? -eq 0 ]; then
+    right=$((right + 1))
+  else
+    echo "${1#"$top"/}, rolis live: its report is not right: $(cat "$told")"
+    wrong=$((wrong + 1))
+  fi
+}
+
+for script in "$top"/examples/*.rolis; do
+  live "$script"
 done
 
 for script in "$top"/examples/runs/*.rolis; do

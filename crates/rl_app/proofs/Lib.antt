@@ -7,3 +7,4 @@ pub mod Runs
 pub mod Served
 pub mod Simulated
 pub mod Stepping
+pub mod Threads

@@ -5,16 +5,17 @@ use Rattle.std.specs.Option.{option_or}
 use Rattle.std.specs.Str.{bytes_eq}
 use Rattle.std.specs.String.{string_bytes}
 use Rattle.rl_app.specs.declared.command.Form.{Form}
-use Rattle.rl_app.specs.declared.command.Form.TheVariants.{Serial, Steps, Sim, Check, GenScript, GenRun}
+use Rattle.rl_app.specs.declared.command.Form.TheVariants.{Serial, Steps, Sim, Live, Check, GenScript, GenRun}
 use Rattle.rl_app.specs.Gen.{gen_sizes}
 
--- the form of one word: `serial`, `steps`, `sim` or `check`
+-- the form of one word: `serial`, `steps`, `sim`, `live` or `check`
 abbrev pub plain_form : List ℕ → Option Form
 plain_form word =
     if bytes_eq word (codes "serial") then Some Serial
     else (if bytes_eq word (codes "steps") then Some Steps
     else (if bytes_eq word (codes "sim") then Some Sim
-    else (if bytes_eq word (codes "check") then Some Check else None)))
+    else (if bytes_eq word (codes "live") then Some Live
+    else (if bytes_eq word (codes "check") then Some Check else None))))
 
 -- the form of the words of `gen`
 abbrev pub gen_form : List (String Global) → Option Form

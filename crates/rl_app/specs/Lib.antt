@@ -3,6 +3,8 @@ pub mod Check
 pub mod Command
 pub mod Gen
 pub mod Generating
+pub mod Live
+pub mod Printing
 pub mod Reports
 pub mod Running
 pub mod Runs

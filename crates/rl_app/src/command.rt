@@ -1,12 +1,14 @@
 //! The top call: which command some words are.
 
-ghost use Rattle.std.specs.Prelude.{◌≡◌, ◌⊎◌, ℕ, List, Some, None, IfSome};
+ghost use Rattle.std.specs.Prelude.{◌≡◌, ◌⊎◌, ℕ, List, Option, Some, None, IfSome};
+ghost use Rattle.rl_live.specs.declared.run.LiveRun.{LiveRun};
 ghost use Rattle.rl_app.specs.declared.command.Form.{Form};
 ghost use Rattle.rl_app.specs.Answers.{AnswersScript, Reports};
 ghost use Rattle.rl_app.specs.declared.generator.Sizes.{Sizes};
 ghost use Rattle.rl_app.specs.Check.{Checks};
 ghost use Rattle.rl_app.specs.Command.{form_of, gen_form, plain_form, usage_line};
 ghost use Rattle.rl_app.specs.Gen.{GivesRun, GivesScript, SomeEach};
+ghost use Rattle.rl_app.specs.Live.{ServesLive};
 ghost use Rattle.rl_app.specs.Serial.{IsReport};
 ghost use Rattle.rl_app.specs.Serve.{Delivers, Serves, Writes, side};
 ghost use Rattle.rl_app.specs.Sim.{GivesWorld};
@@ -15,13 +17,17 @@ ghost use Rattle.rl_app.specs.Steps.{IsStepsReport};
 use crate::answer::{Status, deliver};
 use crate::checker::check;
 use crate::generator::{Sizes, gen_run, gen_script, gen_sizes};
+use crate::live::live;
 use crate::serial::serial;
 use crate::sim::sim;
 use crate::steps::steps;
 use rl_base::limit::{CHECKED, SCRIPT};
 use rl_io::sink::Sink;
 use rl_io::source::Source;
+use rl_live::gate::Gate;
 use std::alloc::Global;
+use std::sync::Wait;
+use std::thread::Threads;
 
 /// What is written where the words have no form.
 pub const USAGE: &str =
@@ -33,6 +39,7 @@ pub enum Form {
     Serial,
     Steps,
     Sim,
+    Live,
     Check,
     /// `gen script`, with what is generated.
     GenScript(Sizes),
@@ -56,11 +63,13 @@ pub enum Form {
 /// of one serial history; each replica at its watermark holds exactly a prefix of it; each leader opens
 /// with everything that leaders of earlier epochs release; and a commit is refused only where a record
 /// that it had observed changed or one that it needed was locked by another worker.
-pub fn rolis<S: Source, K: Sink>(
+pub fn rolis<R: Threads + Wait + Sync, S: Source, K: Sink, G: Gate>(
+    rt: &R,
     alloc: Global,
     words: &[String],
     source: &mut S,
     sink: &mut K,
+    gate: &G,
 ) -> Status
     ensures serial { form_of words.now ≡ Some Form.Serial → Serves (Reports IsReport) SCRIPT
         (side S.left S.faults source.old source.new)
@@ -74,6 +83,10 @@ pub fn rolis<S: Source, K: Sink>(
         (side S.left S.faults source.old source.new)
         (side K.held K.faults sink.old sink.new)
         result.code }
+    ensures live { form_of words.now ≡ Some Form.Live → (run : Option LiveRun) × ServesLive
+        (side S.left S.faults source.old source.new)
+        (side K.held K.faults sink.old sink.new)
+        result.code run }
     ensures check { form_of words.now ≡ Some Form.Check → Serves Checks CHECKED
         (side S.left S.faults source.old source.new)
         (side K.held K.faults sink.old sink.new)
@@ -89,6 +102,7 @@ pub fn rolis<S: Source, K: Sink>(
         Some(Form::Serial) => serial(alloc, source, sink),
         Some(Form::Steps) => steps(alloc, source, sink),
         Some(Form::Sim) => sim(alloc, source, sink),
+        Some(Form::Live) => live(rt, alloc, source, sink, gate).0,
         Some(Form::Check) => check(alloc, source, sink),
         Some(Form::GenScript(sizes)) => gen_script(alloc, sizes, sink),
         Some(Form::GenRun(sizes)) => gen_run(alloc, sizes, sink),
@@ -128,6 +142,7 @@ fn plain_form(word: &str) -> Option<Form>
         "serial" => Some(Form::Serial),
         "steps" => Some(Form::Steps),
         "sim" => Some(Form::Sim),
+        "live" => Some(Form::Live),
         "check" => Some(Form::Check),
         _ => None,
     }

@@ -6,6 +6,7 @@ pub mod checker;
 pub mod command;
 pub mod generator;
 mod input;
+pub mod live;
 mod report;
 mod run;
 pub mod serial;

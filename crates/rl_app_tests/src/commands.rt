@@ -1,5 +1,6 @@
 use rl_app::answer::Status;
 use rl_app::command::rolis;
+use rl_app::live::live;
 use rl_app::serial::serial;
 use rl_app::sim::sim;
 use rl_app::steps::steps;
@@ -7,6 +8,7 @@ use rl_base::list::{Bytes, Fails};
 use rl_base::memory::Memory;
 use rl_io::memory_sink::MemSink;
 use rl_io::memory_source::MemSource;
+use rl_live::gate::OpenGate;
 use std::alloc::Global;
 use std::process::Abort;
 use std::test::Fail;
@@ -84,6 +86,22 @@ fn sim_reports(rt: HostRuntime) -> Result<(), Fail> {
 }
 
 #[test]
+fn live_reports_and_gives_its_run(rt: HostRuntime) -> Result<(), Fail> {
+    let mut source = source_of(rt.alloc(), b"rolis 1\ntable t 2 1\nrow t 1 9", 0)?;
+    let mut sink = sink_with(rt.alloc(), 0)?;
+    let (status, run) = live(&rt, rt.alloc(), &mut source, &mut sink, &OpenGate);
+    assert!(rt; run.is_some());
+    ended(
+        &rt,
+        status,
+        &sink,
+        0,
+        "rolis live\nitems 0\nnode 1\nrow t 1 9\n",
+    );
+    Ok(())
+}
+
+#[test]
 fn a_failed_read_is_a_read_fault(rt: HostRuntime) -> Result<(), Fail> {
     let mut source = source_of(rt.alloc(), TRANSFERS.as_bytes(), 1)?;
     let mut sink = sink_with(rt.alloc(), 0)?;
@@ -111,7 +129,7 @@ fn a_failed_write_leaves_a_prefix(rt: HostRuntime) -> Result<(), Fail> {
 fn usage_that_cant_be_written_is_a_failed_write(rt: HostRuntime) -> Result<(), Fail> {
     let mut source = source_of(rt.alloc(), TRANSFERS.as_bytes(), 0)?;
     let mut sink = sink_with(rt.alloc(), 1)?;
-    let status = rolis(rt.alloc(), &[], &mut source, &mut sink);
+    let status = rolis(&rt, rt.alloc(), &[], &mut source, &mut sink, &OpenGate);
     ended(&rt, status, &sink, 6, "");
     Ok(())
 }

@@ -5,6 +5,7 @@ use rl_app::answer::{Status, deliver};
 use rl_app::command::rolis;
 use rl_io::standard_sink::StdSink;
 use rl_io::standard_source::StdSource;
+use rl_live::gate::OpenGate;
 use std::alloc::AllocError;
 use std::env;
 use std::io::ErrorKind;
@@ -23,7 +24,14 @@ fn main(rt: HostRuntime) -> ExitCode {
     let mut source = StdSource::new(rt.stdin());
     let mut sink = StdSink::new(rt.stdout());
     let status = match words(&rt) {
-        Ok(words) => rolis(rt.alloc(), words.as_slice(), &mut source, &mut sink),
+        Ok(words) => rolis(
+            &rt,
+            rt.alloc(),
+            words.as_slice(),
+            &mut source,
+            &mut sink,
+            &OpenGate,
+        ),
         Err(AllocError) => deliver(&mut sink, Status { code: 7 }, b"memory\n"),
     };
     ExitCode::from(status.code)
