@@ -24,9 +24,9 @@ build() {
   cd "$top/crates/rl_threads_tests" || exit 1
   run rt lib
   for crate in "$top"/crates/*; do
-    mkdir -p "$copy/crates/${crate##*/}"
-    for part in src specs proofs; do
-      [ ! -d "$crate/$part" ] || cp -r "$crate/$part" "$copy/crates/${crate##*/}/"
+    mkdir -p "$copy/crates/${crate##*/}/out"
+    for part in src specs proofs out/rlib; do
+      [ ! -d "$crate/$part" ] || cp -r "$crate/$part" "$copy/crates/${crate##*/}/${part%rlib}"
     done
   done
   mkdir -p "$copy/crates/$program/src"
