@@ -7,13 +7,23 @@ ghost use Rattle.rl_text.specs.Text.{lines_of, words_of, is_printable};
 use rl_base::slices::rest_from;
 use std::alloc::{AllocError, Global};
 
+/// How many words most lines have at most.
+const USUAL_WORDS: usize = 8;
+
 /// The words of a line, which are separated by one or more spaces.
 pub fn words(alloc: Global, line: &str) -> Result<Vec<&str>, AllocError>
     ensures { IfOk result (λ words. map (λ w. w.now) words.items ≡ words_of line.now) }
 {
-    line.split(' ')
-        .filter(|word| !word.is_empty())
-        .collect(alloc)
+    let mut words = Vec::with_capacity(alloc, USUAL_WORDS)?;
+    let mut rest = line;
+    'words: while !rest.is_empty() {
+        let (word, after) = first_piece(rest);
+        if !word.is_empty() {
+            words.push(word)?;
+        }
+        rest = after;
+    }
+    Ok(words)
 }
 
 /// Whether all bytes are spaces or printable characters of ASCII.
