@@ -26,7 +26,8 @@ is_refused other = false
 abbrev pub sum_of : List RowLine → ℕ
 sum_of rows = sum_by (λ x. sum x.row) rows % 2 ^ 64
 
--- how far a node's replica has come, and the sum of its rows; of a node that is not up, its state
+-- how far a node's replica has come, and the sum of its rows; else its state, which is for completeness: no generated script has a
+-- crash or a loss, so each of its nodes is up
 abbrev pub standing_words : Head → List RowLine → Line
 standing_words (Up promised role watermark at) rows =
     codes "watermark" ∷ decimal watermark.0 ∷ decimal watermark.1 ∷ at_word at ∷ codes "sum" ∷ decimal (sum_of rows) ∷ []

@@ -13,7 +13,7 @@ use crate::input::read_script;
 use crate::serve::{Command, serve};
 use rl_base::limit::{CHECKED, SCRIPT};
 use rl_base::memory::Memory;
-use rl_check::check::check_report;
+use rl_check::check::check_script;
 use rl_check::input::parts_of;
 use rl_check::verdict::{Verdict, Why};
 use rl_events::kind::Kind;
@@ -52,7 +52,7 @@ impl Command for CheckCommand {
             return limit_answer(alloc, "script", SCRIPT);
         }
         match read_script(alloc, parts.script)? {
-            Ok(script) => report_answer(alloc, &script, parts.report, parts.lines),
+            Ok(script) => report_answer(alloc, script, parts.report, parts.lines),
             Err(refused) => Ok(refused),
         }
     }
@@ -61,20 +61,20 @@ impl Command for CheckCommand {
 /// The answer to the report behind a script, or to so many lines with none.
 fn report_answer(
     alloc: Global,
-    script: &Script,
+    script: Script,
     report: Option<&[u8]>,
     lines: u32,
 ) -> Result<Answer, Memory>
-    requires script { ScriptFits script.now }
+    requires script { ScriptFits script }
     requires lines { lines < 2 ^ 32 - 1 }
     requires report { IfSome report (λ report. length report.now < 2 ^ 32 - 1) }
     ensures answers { (input : List ℕ) → option_map (λ report. report.now) report.entry ≡ report_part input
         → IfNone report.entry (lines ≡ length (lines_of input))
-        → IfOk result (λ answer. ChecksReport input script.now answer.status.code answer.text) }
+        → IfOk result (λ answer. ChecksReport input script answer.status.code answer.text) }
     ensures answered { IfOk result (λ answer. IsAnswered answer.status.code) }
 {
     match report {
-        Some(report) => verdict_answer(alloc, check_report(alloc, script, report)?),
+        Some(report) => verdict_answer(alloc, check_script(alloc, script, report)?),
         None => fault_answer(alloc, lines + 1, Kind::Unended),
     }
 }
