@@ -6,7 +6,6 @@ ghost use Rattle.rl_replay.specs.Standing.{BeginsWithPlayed};
 ghost use Rattle.rl_families_tests.specs.Follows.{Follows};
 
 use crate::arrivals::Arrivals;
-use rl_base::bound::Bound;
 use rl_base::memory::Memory;
 use rl_cut::family::{ExtendError, Family};
 use rl_replay::laws::logs_grow;
@@ -123,42 +122,30 @@ pub fn play_stream(
     ensures { Follows known replica.new family.now }
 {
     for _entry in 0..u64::MAX {
-        let Some(bound) = next_bound(replica, family, known, stream) else {
-            return Ok(());
-        };
-        if !goes_on(play(alloc, replica, family, known, stream, bound)?) {
+        if !goes_on(play_next(alloc, replica, family, known, stream)?) {
             return Ok(());
         }
     }
     Ok(())
 }
 
-/// The bound of the epoch of the next entry of a stream.
-fn next_bound(replica: &Replica, family: &Family, known: u32, stream: u32) -> Option<Bound>
-    requires first_stream { 1 ≤ stream }
-    requires last_stream { stream ≤ length family.now }
-    requires follows { Follows known replica.now family.now }
-{
-    let epoch = replica.next_epoch_of(stream, family.log(stream), known)?;
-    Some(family.bound(epoch))
-}
-
-/// Plays the next entry of a stream.
-fn play(
+/// Plays the next entry of a stream, with the family's watermark and the bound of the entry's epoch: any where there is none.
+pub fn play_next(
     alloc: Global,
     replica: &mut Replica,
     family: &Family,
     known: u32,
     stream: u32,
-    bound: Bound,
 ) -> Result<Played, Memory>
     requires first_stream { 1 ≤ stream }
     requires last_stream { stream ≤ length family.now }
     requires follows { Follows known replica.old family.now }
     ensures { Follows known replica.new family.now }
 {
+    let log = family.log(stream);
+    let epoch = replica.next_epoch_of(stream, log, known).unwrap_or(0);
     let (_, seq) = family.watermark();
-    replica.play(alloc, stream, family.log(stream), known, bound, seq)
+    replica.play(alloc, stream, log, known, family.bound(epoch), seq)
 }
 
 /// Whether an entry was played that another may follow.

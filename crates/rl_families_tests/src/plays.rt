@@ -1,15 +1,16 @@
-//! A replica plays the items of two streams, the newer one first.
+//! A replica plays the items of two streams, the newer one first, and leaves the one above the watermark.
 
 ghost use Rattle.std.specs.Prelude.{◌≡◌, length, IfOk};
 ghost use Rattle.rl_families.specs.Logs.{stamps_in_batch};
 ghost use Rattle.rl_families_tests.specs.Follows.{Follows};
 
-use crate::followers::{extend, new_pair, play_stream};
+use crate::followers::{extend, new_pair, play_next, play_stream};
 use crate::items::item;
 use rl_base::list::Seq;
 use rl_base::memory::Memory;
 use rl_base::stamp::Stamp;
 use rl_cut::family::{ExtendError, Family};
+use rl_replay::played::Played;
 use rl_replay::replica::Replica;
 use rl_txn::batch::Batch;
 use rl_txn::item::Items;
@@ -62,5 +63,24 @@ fn the_newer_write_stays(rt: HostRuntime) -> Result<(), Fail> {
     play_stream(alloc, &mut replica, &family, 2, 1)?;
     assert_eq!(rt; value(&replica), 6);
     assert!(rt; replica.at_watermark(family.kept_history()));
+    Ok(())
+}
+
+#[test]
+fn an_item_above_the_watermark_waits(rt: HostRuntime) -> Result<(), Fail> {
+    let alloc = rt.alloc();
+    let (family, mut replica) = two_streams(alloc)?;
+    assert_eq!(rt; family.watermark(), (1, 3));
+    play_stream(alloc, &mut replica, &family, 2, 1)?;
+    assert_eq!(rt; value(&replica), 5);
+    let next = Stamp { epoch: 1, seq: 4 };
+    let waits = play_next(alloc, &mut replica, &family, 2, 1)?;
+    assert_eq!(rt; waits, Played::Above { next, watermark: 3 });
+    play_stream(alloc, &mut replica, &family, 2, 2)?;
+    assert_eq!(rt; value(&replica), 6);
+    assert_eq!(rt;
+        play_next(alloc, &mut replica, &family, 2, 2)?,
+        Played::Empty
+    );
     Ok(())
 }
