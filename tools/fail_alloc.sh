@@ -4,10 +4,16 @@
 # Each command runs on small scripts with its first request for memory refused, then with its second alone, and so on up
 # to a run in which none was: each run before that must end with status 7 and the line `memory`, or with the whole output.
 #
+# Then a run of nodes with an election, commits, a crash and a second election, in the same way (bench/refusals.rt.in): once
+# memory was refused to a node it must answer that to each call until it crashes, and have the acceptor that it had before
+# the call or the one that the call makes.
+#
 # Memory is refused by a library that stands before the C library's: so it is the built program that is looked at, and a
 # run takes milliseconds, where `rt try --fail-alloc N` builds the program anew for each N.
+# Usage: tools/fail_alloc.sh [commands | nodes]
 set -u
 . "$(dirname "$0")/../bench/count.sh"
+. "$top/bench/program.sh"
 shim=$work/refuse.so
 bad=0
 
@@ -71,14 +77,94 @@ command_on() {
   echo "$command ${script#"$top"/}: $((which - 1)) requests; $memory end with memory, $whole with the whole output"
 }
 
-if [ ! -x "$binary" ]; then
-  echo "build the program first: ./rolis serial < examples/two_transfers.rolis" >&2
-  exit 1
-fi
-for command in serial steps sim; do
-  for script in all_events another_node declined locked two_transfers; do
-    command_on "$command" "$top/examples/$script.rolis"
+# A run of nodes.
+nodes_on() {
+  local which=0 ended=0
+  declare -A tally=()
+  cat >"$work/in"
+  echo "the run of nodes: $("$binary" <"$work/in")"
+  while which=$((which + 1)) && refuse "$which" "$binary"; do
+    local told
+    told=$(head -n 1 "$work/told")
+    case $told in
+      before | after | same | down | elsewhere | whole*) ;;
+      '') told="none (status $ended: $(head -c 60 "$work/said" | head -n 1))" ;;
+      *)
+        bad=$((bad + 1))
+        echo "request $which: $told"
+        ;;
+    esac
+    told=${told%%:*}
+    tally[$told]=$((${tally[$told]:-0} + 1))
   done
-done
+  echo "the run of nodes: $((which - 1)) requests"
+  for told in "${!tally[@]}"; do
+    echo "  $told: ${tally[$told]}"
+  done
+}
+
+if [ "${1:-commands}" = commands ]; then
+  if [ ! -x "$binary" ]; then
+    echo "build the program first: ./rolis serial < examples/two_transfers.rolis" >&2
+    exit 1
+  fi
+  for command in serial steps sim; do
+    for script in all_events another_node declined locked two_transfers; do
+      command_on "$command" "$top/examples/$script.rolis"
+    done
+  done
+fi
+if [ "${1:-nodes}" = nodes ]; then
+  build_program bench_refusals refusals.rt.in "anyhow rl_base rl_events rl_node rl_node_tests" nodes
+  nodes_on <<'SCRIPT'
+rolis 1
+nodes 3
+workers 2
+batch 2
+table a 2 1
+txn 1
+get a 0 0 r0
+add r0 r0 1
+put a 0 r0
+out r0
+end
+txn 1
+put a 1 7
+end
+txn 2
+put a 0 6
+end
+events
+elect 1
+all
+all
+all
+all
+step 1 1 20
+step 1 2 5
+flush 1 2
+all
+all
+tick 1
+crash 1
+elect 2
+all
+all
+all
+all
+step 2 1 6
+idle 2 2
+flush 2 1
+all
+all
+all
+play 2 1
+play 2 2
+back 1
+tick 2
+all
+all
+SCRIPT
+fi
 echo "wrong: $bad"
 [ "$bad" -eq 0 ]
