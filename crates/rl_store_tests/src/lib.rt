@@ -9,9 +9,13 @@ pub mod bank;
 #[cfg(test)]
 mod draws;
 #[cfg(test)]
+mod limits;
+#[cfg(test)]
 mod one;
 #[cfg(test)]
 mod reads;
+#[cfg(test)]
+mod ready;
 #[cfg(test)]
 mod refusals;
 pub mod requests;

@@ -13,7 +13,7 @@ use std::test::Fail;
 use std::thread::{Threads, join};
 
 /// Reads record 0, and rests.
-fn look(store: &Store, mut pass: Pass) -> (Pass, Result<Observed, Refusal>)
+pub fn look(store: &Store, mut pass: Pass) -> (Pass, Result<Observed, Refusal>)
     requires table { pass.table ≡ store.now.table }
     requires rest { IsAtRest pass.view }
     requires some { 0 < length store.now.made.columns }

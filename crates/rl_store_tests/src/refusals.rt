@@ -4,10 +4,9 @@ ghost use Rattle.std.specs.Prelude.{◌≡◌, ◌<◌, length, IfSome};
 ghost use Rattle.rl_store.specs.Views.{IsAtRest};
 
 use crate::bank::{accounts, opened, transfer};
+use crate::ready::{executed, locked};
 use crate::threads::attempt;
-use rl_base::memory::Memory;
 use rl_base::refusal::Refusal;
-use rl_occ::attempt::Attempt;
 use rl_occ::outcome::CommitError;
 use rl_store::pass::Pass;
 use rl_store::store::Store;
@@ -35,15 +34,7 @@ fn a_locked_record_refuses_reads_and_locks(rt: HostRuntime) -> Result<(), Fail> 
     let (store, mut one) = opened(alloc, &schema, 1, 7, 4)?;
     let mut other = one.split(&store, 2);
     let txn = transfer(alloc, &schema, 0, 0, 2)?;
-    let Ok(mut first) = Attempt::begin(alloc, &store, &layout, &schema, &txn, one) else {
-        return Err(Memory.into());
-    };
-    let Ok(()) = first.execute() else {
-        return Err("the read was refused".into());
-    };
-    let Ok(()) = first.lock() else {
-        return Err("the lock was refused".into());
-    };
+    let first = locked(alloc, &store, &layout, &schema, &txn, one)?;
     let Some(found) = refusals(&store, &mut other) else {
         return Err("a locked record was read or locked".into());
     };
@@ -72,12 +63,7 @@ fn a_read_under_an_old_stamp_is_refused_at_the_commit(rt: HostRuntime) -> Result
     let (store, mut one) = opened(alloc, &schema, 2, 10, 4)?;
     let other = one.split(&store, 2);
     let txn = transfer(alloc, &schema, 0, 1, 3)?;
-    let Ok(mut late) = Attempt::begin(alloc, &store, &layout, &schema, &txn, one) else {
-        return Err(Memory.into());
-    };
-    let Ok(()) = late.execute() else {
-        return Err("the read was refused".into());
-    };
+    let mut late = executed(alloc, &store, &layout, &schema, &txn, one)?;
     let (_other, decided) = attempt(alloc, &store, &layout, &schema, &txn, other)?;
     assert!(rt; decided.is_some());
     let Ok(()) = late.lock() else {
@@ -92,5 +78,41 @@ fn a_read_under_an_old_stamp_is_refused_at_the_commit(rt: HostRuntime) -> Result
     };
     assert!(rt; matches!(result, Err(CommitError::Refused(found)) if found == refusal));
     assert_eq!(rt; one.tries(), 1);
+    Ok(())
+}
+
+#[test]
+fn an_attempt_is_refused_a_lock_that_another_has(rt: HostRuntime) -> Result<(), Fail> {
+    let alloc = rt.alloc();
+    let schema = accounts(alloc, 2)?;
+    let layout = Layout::new(alloc, &schema)?;
+    let (store, mut one) = opened(alloc, &schema, 2, 10, 4)?;
+    let other = one.split(&store, 2);
+    let txn = transfer(alloc, &schema, 0, 1, 3)?;
+    let mut late = executed(alloc, &store, &layout, &schema, &txn, one)?;
+    let first = locked(alloc, &store, &layout, &schema, &txn, other)?;
+    assert_eq!(rt; late.lock(), Err(Refusal::Locked { rec: 0, word: 1 }));
+    assert_eq!(rt; late.abandon().tries(), 2);
+    let (_other, result) = first.commit();
+    assert!(rt; result.is_ok());
+    Ok(())
+}
+
+#[test]
+fn a_declined_attempt_is_refused_where_another_holds_what_it_read(
+    rt: HostRuntime,
+) -> Result<(), Fail> {
+    let alloc = rt.alloc();
+    let schema = accounts(alloc, 2)?;
+    let layout = Layout::new(alloc, &schema)?;
+    let (store, mut one) = opened(alloc, &schema, 2, 10, 4)?;
+    let other = one.split(&store, 2);
+    let declined = transfer(alloc, &schema, 0, 1, 11)?;
+    let txn = transfer(alloc, &schema, 0, 1, 3)?;
+    let late = locked(alloc, &store, &layout, &schema, &declined, one)?;
+    let _first = locked(alloc, &store, &layout, &schema, &txn, other)?;
+    let (_one, result) = late.commit();
+    let refusal = Refusal::Locked { rec: 0, word: 1 };
+    assert!(rt; matches!(result, Err(CommitError::Refused(found)) if found == refusal));
     Ok(())
 }
