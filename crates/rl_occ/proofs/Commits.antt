@@ -20,7 +20,7 @@ use Rattle.rl_store.specs.declared.view.Held.{Held}
 use Rattle.rl_store.specs.declared.view.View.{View}
 use Rattle.rl_store.specs.Entries.{In}
 use Rattle.rl_store.specs.Opening.{Made}
-use Rattle.rl_store.specs.Passes.{IsAbove, PassOf}
+use Rattle.rl_store.specs.Passes.{HasReadWord, IsAbove, PassOf}
 use Rattle.rl_store.specs.Refusals.{after_stop, StopsDraw, why}
 use Rattle.rl_store.specs.Views.{above_at, rested, settled, with_draw}
 use Rattle.rl_store.proofs.Marks.{in_map}
@@ -38,7 +38,7 @@ use Rattle.rl_occ.specs.Committing.{all_closed, all_valid, with_refusal}
 use Rattle.rl_occ.specs.Fits.{IsStoreOf, rec_of}
 use Rattle.rl_occ.specs.Locking.{AreApart, AreBelow, held_of, lock_rec}
 use Rattle.rl_occ.specs.Outcomes.{IsStopped, RefusesReads}
-use Rattle.rl_occ.specs.Reading.{seen_of}
+use Rattle.rl_occ.specs.Reading.{IsSeen, seen_of}
 use Rattle.rl_occ.specs.Working.{HasLocked, HasRun, HasSeen, WorkFits}
 use Rattle.rl_occ.proofs.Finishes.{commits, loses}
 use Rattle.rl_occ.proofs.Locks.{lock_of_hold, locks_apart, locks_below}
@@ -62,10 +62,17 @@ seen_below tables made v words h of x i =
     let y = in_map seen_of v.attempt.reads i.0 x (subst (λ l. get_elem? l i.0 ≡ some x) (sym h.seen) i.1) in
     subst (λ (p : ℕ × ℕ). p.0 < p.1) (λ j. (ap (λ (s : Seen). s.rec) y.2 j, sym of.records j)) (h.below y.0 y.1)
 
--- why a read was refused, by what the attempt holds
-pub refuses_commit : (v : View) (locks : List Lock) → HasLocked v locks → (refusal : Refusal) → RefusesReads locks refusal → RefusesCommit v refusal
-refuses_commit v locks has (Locked rec found) c = (c.0, λ h. c.1 (lock_of_hold v locks rec (running_held v locks has) h))
-refuses_commit v locks has (Changed rec seen found) c = c
+-- a word that was seen is that of a read
+read_under : (v : View) (words : List Seen) → map seen_of v.attempt.reads ≡ words → (rec word : ℕ) → IsSeen words rec word → HasReadWord v rec word
+read_under v words seen rec word i =
+    let s : Seen = record { rec = rec; word = word } in
+    let y = in_map seen_of v.attempt.reads i.0 s (subst (λ l. get_elem? l i.0 ≡ some s) (sym seen) i.1) in
+    (y.0, y.1, ap (λ (u : Seen). u.rec) y.2, sym (ap (λ (u : Seen). u.word) y.2))
+
+-- why a read was refused, by what the attempt has read and holds
+pub refuses_commit : (v : View) (words : List Seen) (locks : List Lock) → map seen_of v.attempt.reads ≡ words → HasLocked v locks → (refusal : Refusal) → RefusesReads words locks refusal → RefusesCommit v refusal
+refuses_commit v words locks seen has (Locked rec found) c = ((c.0.0, read_under v words seen rec c.0.0 c.0.1), c.1, λ h. c.2 (lock_of_hold v locks rec (running_held v locks has) h))
+refuses_commit v words locks seen has (Changed rec before found) c = (read_under v words seen rec before c.0, c.1, c.2)
 
 module _ (a : AttemptOf) (locks : List Lock) (words : List Seen) (reply : Reply) (writes : List txn.Write) (has : HasLocked a.view locks) (seen : HasSeen a.tables a.view words) (run : HasRun a.tables a.txn a.view reply writes) (recs : map lock_rec locks ≡ map (rec_of a.tables) writes) (seq : ℕ) where
   abbrev t : ℕ
@@ -87,11 +94,11 @@ module _ (a : AttemptOf) (locks : List Lock) (words : List Seen) (reply : Reply)
           ∙ (λ i. with_commit a.tables a.view (packed (sym stamp i)) (sym written i));
     }
 
-    pub is_lost : (refusal : Refusal) → 0 < a.view.tries → 0 < length words → w ≡ with_refusal drawn (why refusal) → RefusesReads locks refusal → (0 < a.view.tries) × (w ≡ with_loss a.view (why refusal)) × RefusesCommit a.view refusal
+    pub is_lost : (refusal : Refusal) → 0 < a.view.tries → 0 < length words → w ≡ with_refusal drawn (why refusal) → RefusesReads words locks refusal → (0 < a.view.tries) × (w ≡ with_loss a.view (why refusal)) × RefusesCommit a.view refusal
     is_lost refusal left some_ end c = (
       left,
       end ∙ ap (λ u. with_refusal u (why refusal)) (is ∙ loses a.view locks words has seen.seen seen.once t some_),
-      refuses_commit a.view locks has refusal c,
+      refuses_commit a.view words locks seen.seen has refusal c,
     )
 
 -- stopped at the draw

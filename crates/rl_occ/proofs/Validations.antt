@@ -94,11 +94,16 @@ stops v locks why e apart = subst (λ (hs : List Held). HasRefused v (stopped hs
     go [] e a = (record { refusals = refl; last = refl; items = refl; splits = refl }, record { held = refl; apart = a; undecided = λ d. Some≢None d.0 (sym d.1) }, refl, refl)
     go (l ∷ ls) e a = (record { refusals = refl; last = refl; items = refl; splits = refl }, record { held = e; apart = a; undecided = λ d. true≢false (sym d.2.0) }, refl, refl)
 
--- the cause, by the locks
-pub cause_of : (locks : List Lock) (r word : ℕ) (held : Bool) → MatchBool held (In r (map lock_rec locks)) (In r (map lock_rec locks) → ⊥) → (refusal : Refusal) → RefusesRead r word held refusal → RefusesReads locks refusal
-cause_of locks r word true m (Locked rec found) c = absurd (true≢false c.2)
-cause_of locks r word false m (Locked rec found) c = (c.1, λ i. m (subst (λ (n : ℕ). In n (map lock_rec locks)) c.0 i))
-cause_of locks r word held m (Changed rec seen found) c = (λ e. c.2 (sym e ∙ c.1), c.3)
+-- the cause, by the words seen and the locks
+pub cause_of : (words : List Seen) (locks : List Lock) (k : ℕ) (s : Seen) → get_elem? words k ≡ some s → (held : Bool) → MatchBool held (In s.rec (map lock_rec locks)) (In s.rec (map lock_rec locks) → ⊥)
+    → (refusal : Refusal) → RefusesRead s.rec s.word held refusal → RefusesReads words locks refusal
+cause_of words locks k s at true m (Locked rec found) c = absurd (true≢false c.2)
+cause_of words locks k s at false m (Locked rec found) c = (
+  (s.word, (k, at ∙ (λ i. some (record { rec = sym c.0 i; word = s.word })))),
+  c.1,
+  λ i. m (subst (λ (n : ℕ). In n (map lock_rec locks)) c.0 i),
+)
+cause_of words locks k s at held m (Changed rec seen found) c = ((k, at ∙ (λ i. some (record { rec = sym c.0 i; word = sym c.1 i }))), λ e. c.2 (e ∙ c.1), c.3)
 
 pub refuses_first : (v : View) (k : ℕ) (w : View) (why : Refused) → HasRefused (first_valid v k) w why → HasRefused v w why
 refuses_first v k w why h = record { refusals = h.refusals; last = h.last; items = h.items; splits = h.splits }

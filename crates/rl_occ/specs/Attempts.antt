@@ -16,7 +16,7 @@ use Rattle.rl_store.specs.declared.view.Read.{Read}
 use Rattle.rl_store.specs.declared.view.Refused.{Refused}
 use Rattle.rl_store.specs.declared.view.View.{View}
 use Rattle.rl_store.specs.Entries.{Holds, In}
-use Rattle.rl_store.specs.Passes.{IsAbove, IsLockedRefusal, PassOf, StoreOf}
+use Rattle.rl_store.specs.Passes.{HasReadWord, IsAbove, IsLockedRefusal, PassOf, StoreOf}
 use Rattle.rl_store.specs.Refusals.{why}
 use Rattle.rl_store.specs.Views.{above_at, blank, rested, stopped, with_draw}
 use Rattle.rl_occ.specs.declared.attempt.Phase.{Phase}
@@ -70,10 +70,11 @@ pub record IsCommitted (a : AttemptOf) (v : View) (d : Decided) : Type 0 where
   pub tries : 0 < a.view.tries
   pub view : v ≡ with_commit a.tables a.view (packed d.stamp) d.writes
 
--- why a read is refused at the commit: its record was found locked by another, or under another stamp
+-- why the commit is refused: a record that the attempt has read was found locked by another, or with another word, and
+-- not locked, than the one under which it was read
 abbrev pub RefusesCommit : (v : View) → Refusal → Type 0
-RefusesCommit v (Locked rec found) = (found % 2 ≡ 1) × (Holds v rec → ⊥)
-RefusesCommit v (Changed rec seen found) = (seen ≢ found) × (found % 2 ≡ 0)
+RefusesCommit v (Locked rec found) = ((word : ℕ) × HasReadWord v rec word) × (found % 2 ≡ 1) × (Holds v rec → ⊥)
+RefusesCommit v (Changed rec seen found) = HasReadWord v rec seen × (found ≢ seen) × (found % 2 ≡ 0)
 
 -- a record that the attempt doesn't hold itself was found locked
 abbrev pub RefusesOther : (v : View) → Refusal → Type 0

@@ -1,5 +1,5 @@
 -- What an attempt comes to, by the views of its pass before and after.
-use Rattle.std.specs.Prelude.{◌≡◌, ◌≢◌, ◌+◌, ◌%◌, ◌<◌, List, map, length, Some}
+use Rattle.std.specs.Prelude.{◌≡◌, ◌≢◌, ℕ, ◌+◌, ◌%◌, ◌<◌, List, map, length, Some}
 use Rattle.rl_base.specs.declared.refusal.Refusal.{Refusal}
 use Rattle.rl_base.specs.declared.refusal.Refusal.TheVariants.{Locked, Changed}
 use Rattle.rl_txn.specs.declared.write.Write as txn
@@ -11,8 +11,10 @@ use Rattle.rl_store.specs.declared.view.Write.{Write}
 use Rattle.rl_store.specs.Entries.{In, IsDecided}
 use Rattle.rl_store.specs.Opening.{Made}
 use Rattle.rl_occ.specs.declared.sets.Lock.{Lock}
+use Rattle.rl_occ.specs.declared.sets.Seen.{Seen}
 use Rattle.rl_occ.specs.Fits.{rec_of}
 use Rattle.rl_occ.specs.Locking.{AreApart, held_of, lock_rec}
+use Rattle.rl_occ.specs.Reading.{IsSeen}
 
 -- what the attempt holds are records of the store
 abbrev pub HoldsOf : (made : Made) (v : View) → Type 0
@@ -31,10 +33,10 @@ pub record HasRefused (v w : View) (why : Refused) : Type 0 where
   pub items : w.items ≡ v.items
   pub splits : w.splits ≡ v.splits
 
--- a read is refused: its record was found locked by another, or under another stamp
-abbrev pub RefusesReads : (locks : List Lock) → Refusal → Type 0
-RefusesReads locks (Locked rec found) = (found % 2 ≡ 1) × (In rec (map lock_rec locks) → ⊥)
-RefusesReads locks (Changed rec seen found) = (seen ≢ found) × (found % 2 ≡ 0)
+-- a read is refused: its record was found locked by another, or with another word than the one that was seen
+abbrev pub RefusesReads : (words : List Seen) (locks : List Lock) → Refusal → Type 0
+RefusesReads words locks (Locked rec found) = ((word : ℕ) × IsSeen words rec word) × (found % 2 ≡ 1) × (In rec (map lock_rec locks) → ⊥)
+RefusesReads words locks (Changed rec seen found) = IsSeen words rec seen × (found ≢ seen) × (found % 2 ≡ 0)
 
 -- a write of a transaction, as the store keeps it
 abbrev pub write_at : (tables : List Table) (w : txn.Write) → Write

@@ -44,6 +44,10 @@ pub record HasRead (tables : List Table) (v : View) (rows : Overlay) (words : Li
 abbrev pub SameButAttempt : (v w : View) → Type 0
 SameButAttempt v w = w ≡ record v { attempt = w.attempt }
 
--- a record was found locked, or with another word than the one seen
-abbrev pub RefusesSome : Refusal → Type 0
-RefusesSome refusal = (r : ℕ) × Refuses r refusal
+-- this word of the record is among those that were seen
+abbrev pub IsSeen : (words : List Seen) (rec word : ℕ) → Type 0
+IsSeen words rec word = In {X = Seen} (record { rec = rec; word = word }) words
+
+-- a record of the tables was found locked, or with another word than the one seen
+abbrev pub RefusesSome : (tables : List Table) → Refusal → Type 0
+RefusesSome tables refusal = (r : ℕ) × (r < sum (sizes_of tables)) × Refuses r refusal

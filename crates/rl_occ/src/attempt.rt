@@ -128,7 +128,7 @@ impl<'a> Attempt<'a> {
         ensures executed { IfOk result (λ _. self.new ≡ gone_on self.old self.new.view Phase.Executed) }
         ensures same { IfOk result (λ _. SameButAttempt self.old.view self.new.view) }
         ensures refused { IfErr result (λ refusal. self.new ≡ gone_on self.old (refused self.old.view (why refusal)) Phase.Stopped) }
-        ensures cause { IfErr result RefusesSome }
+        ensures cause { IfErr result (RefusesSome self.old.tables) }
     {
         // For the proof alone: the laws of transactions and of record numbers.
         answers();

@@ -36,7 +36,7 @@ pub fn validate_all(
     ensures tries { IfErr result (λ _. (pass.new.view.tries ≡ pass.old.view.tries) × (pass.new.view.draws ≡ pass.old.view.draws)) }
     ensures some { IfErr result (λ _. 0 < length seen.now) }
     ensures stopped { IfErr result (λ _. IsStopped pass.new.view locks.now) }
-    ensures cause { IfErr result (λ refusal. RefusesReads locks.now refusal) }
+    ensures cause { IfErr result (λ refusal. RefusesReads seen.now locks.now refusal) }
 {
     for i in 0..seen.len() {
         let Seen { rec, word } = seen[i];
@@ -106,7 +106,7 @@ pub fn finish(
     ensures committed { IfOk result (λ _. pass.new.view ≡ settled (all_closed schema.now (settled (all_valid pass.old.view)) writes.now)) }
     ensures lost { IfErr result (λ refusal. pass.new.view ≡ with_refusal pass.old.view (why refusal)) }
     ensures some { IfErr result (λ _. 0 < length seen.now) }
-    ensures cause { IfErr result (λ refusal. RefusesReads locks.now refusal) }
+    ensures cause { IfErr result (λ refusal. RefusesReads seen.now locks.now refusal) }
 {
     if let Err(refusal) = validate_all(store, pass, seen, locks) {
         release(store, pass, locks);

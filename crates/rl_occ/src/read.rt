@@ -46,7 +46,7 @@ pub fn run_on(
     ensures read { IfOk result (λ _. HasRead schema.now pass.new.view (rows_given eval.new) seen.new.items) }
     ensures same { IfOk result (λ _. SameButAttempt pass.old.view pass.new.view) }
     ensures refused { IfErr result (λ refusal. pass.new.view ≡ refused pass.old.view (why refusal)) }
-    ensures cause { IfErr result RefusesSome }
+    ensures cause { IfErr result (RefusesSome schema.now) }
 {
     loop {
         let Wants::Read { table, key } = eval.advance(schema, txn) else {
@@ -82,7 +82,7 @@ fn read_one(
     ensures read { IfOk result (λ _. HasRead schema.now pass.new.view (rows_given eval.new) seen.new.items) }
     ensures same { IfOk result (λ _. SameButAttempt pass.old.view pass.new.view) }
     ensures refused { IfErr result (λ refusal. pass.new.view ≡ refused pass.old.view (why refusal)) }
-    ensures cause { IfErr result RefusesSome }
+    ensures cause { IfErr result (RefusesSome schema.now) }
 {
     let rec = layout.record(table, key);
     let observed = store.observe(pass, rec)?;

@@ -47,10 +47,10 @@ IsLockedRefusal r (Changed rec seen found) = ⊥
 abbrev pub IsAbove : (v : View) (stamp : ℕ) → Type 0
 IsAbove v stamp = (e : Entry) → In e (entries v) → e.stamp < stamp
 
--- the word for which record r refuses: a locked one, or one that is free and isn't the one seen
+-- the word for which record r refuses: a locked one, or one that isn't the one seen, of which neither is locked
 abbrev pub Refuses : (r : ℕ) → Refusal → Type 0
 Refuses r (Locked rec found) = (rec ≡ r) × (found % 2 ≡ 1)
-Refuses r (Changed rec seen found) = (rec ≡ r) × (seen ≢ found) × (found % 2 ≡ 0)
+Refuses r (Changed rec seen found) = (rec ≡ r) × (seen ≢ found) × (seen % 2 ≡ 0) × (found % 2 ≡ 0)
 
 -- the attempt has read r under the stamp of this word
 abbrev pub HasReadWord : (v : View) (r word : ℕ) → Type 0

@@ -95,8 +95,9 @@ pub returns-in_err-validate-clause-cause : goal.returns-in_err-validate-clause-c
 returns-in_err-validate-clause-cause c =
     let d : Seen = record { rec = 0; word = 0 } in
     let s = slice_index_or c.args.seen.now c.loop-i.i d in
+    let at = at_or c.args.seen.now c.loop-i.i d c.loop-i-test.true in
     let p = err_from_is_err_and c.from_residual.result c.from_residual.ensures.1 in
-    rw (p.1, p.2) (cause_of c.args.locks.now s.rec s.word c.is_locked.result c.is_locked.ensures c.in_err-validate.field-0.0 c.in_err-validate.ensures.cause)
+    rw (p.1, p.2) (cause_of c.args.seen.now c.args.locks.now c.loop-i.i s at c.is_locked.result c.is_locked.ensures c.in_err-validate.field-0.0 c.in_err-validate.ensures.cause)
 
 pub loop-i-preserved : goal.loop-i-preserved
 loop-i-preserved c =

@@ -54,4 +54,4 @@ returns-clause-failed c =
     let told = c.in-Ok.ensures in
     let end = c.in-Err.ensures in
     subst (λ (b : AttemptOf). (0 < b.view.tries) × (c.finish-finished.new.pass.view ≡ with_loss b.view (why c.in-Err.refusal)) × RefusesCommit b.view c.in-Err.refusal) c.self.view_is
-    (is_lost (record { store = a.store.now; tables = a.schema.now; txn = a.txn.now; view = a.pass.view; phase = phase_of a.work }) a.locks.items a.seen.items c.in-Locked.reply c.in-Locked.writes h.0 h.1 h.2 h.3 c.in-Ok.seq c.draw.new.pass.view told.drawn c.finish-finished.new.pass.view c.in-Err.refusal told.left (subst (λ (l : List Seen). 0 < length l) c.as_slice-2.ensures end.some) end.lost (subst (λ (l : List Lock). RefusesReads l c.in-Err.refusal) c.as_slice-3.ensures end.cause))
+    (is_lost (record { store = a.store.now; tables = a.schema.now; txn = a.txn.now; view = a.pass.view; phase = phase_of a.work }) a.locks.items a.seen.items c.in-Locked.reply c.in-Locked.writes h.0 h.1 h.2 h.3 c.in-Ok.seq c.draw.new.pass.view told.drawn c.finish-finished.new.pass.view c.in-Err.refusal told.left (subst (λ (l : List Seen). 0 < length l) c.as_slice-2.ensures end.some) end.lost (subst (λ (p : List Seen × List Lock). RefusesReads p.0 p.1 c.in-Err.refusal) (λ i. (c.as_slice-2.ensures i, c.as_slice-3.ensures i)) end.cause))

@@ -73,5 +73,5 @@ returns c =
     let end = c.in-Err-finished.ensures in
     subst (λ (b : AttemptOf). (c.finish-finished.new.pass.table ≡ b.store.table) × ((0 < b.view.tries) × (c.finish-finished.new.pass.view ≡ with_loss b.view (why c.in-Err-finished.refusal)) × RefusesCommit b.view c.in-Err-finished.refusal)) c.self.view_is (
       c.finish-finished.ensures.table ∙ told.table ∙ c.self.invariant.0.table,
-      is_lost here a.locks.items a.seen.items c.in-Locked.reply c.in-Locked.writes h.0 h.1 h.2 h.3 c.in-Ok.seq c.draw_below.new.pass.view told.drawn c.finish-finished.new.pass.view c.in-Err-finished.refusal told.left (subst (λ (l : List Seen). 0 < length l) c.as_slice.ensures end.some) end.lost (subst (λ (l : List Lock). RefusesReads l c.in-Err-finished.refusal) c.as_slice-2.ensures end.cause),
+      is_lost here a.locks.items a.seen.items c.in-Locked.reply c.in-Locked.writes h.0 h.1 h.2 h.3 c.in-Ok.seq c.draw_below.new.pass.view told.drawn c.finish-finished.new.pass.view c.in-Err-finished.refusal told.left (subst (λ (l : List Seen). 0 < length l) c.as_slice.ensures end.some) end.lost (subst (λ (p : List Seen × List Lock). RefusesReads p.0 p.1 c.in-Err-finished.refusal) (λ i. (c.as_slice.ensures i, c.as_slice-2.ensures i)) end.cause),
     )
