@@ -159,6 +159,7 @@ module _ (script : Script) (store : StoreOf) (total : ℕ) (pass : PassOf) (rows
       let items = f.items_are in
       record {
         epoch = store.made.epoch;
+        begun = begun;
         logs = h.logs;
         family = h.family;
         streams = streams;

@@ -65,6 +65,7 @@ pub record IsClosedAfter (tables : List Table) (rows : Rows) (items : List Item)
 -- what a run of a script gives back: the last leader's epoch, and each stream's log, as bytes and as what they are read as
 pub record RunOk (script : Script) (run : LiveRun) : Type 0 where
   pub epoch : ℕ
+  pub begun : 1 ≤ epoch
   pub logs : List bytes.Log
   pub family : List (List Batch)
   pub streams : length family ≡ script.workers

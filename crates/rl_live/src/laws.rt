@@ -1,6 +1,6 @@
 //! Laws of what workers decide.
 
-ghost use Rattle.rl_live.specs.Laws.{DecidedItemsAreSerial, EndedWorkersHaveServed};
+ghost use Rattle.rl_live.specs.Laws.{DecidedItemsAreSerial, EndedWorkersHaveServed, SomeRunIsRight};
 
 /// Of a store that was closed with a pass which has all items: by rising stamp each item is what its request does after
 /// those before it, and the store ends with the rows and the stamps after all of them.
@@ -13,4 +13,9 @@ pub fn decided_items_are_serial()
 /// as after it.
 pub fn ended_workers_have_served()
     ensures { EndedWorkersHaveServed }
+{}
+
+/// A run with an item that is right: what is said of runs can be met.
+pub fn some_run_is_right()
+    ensures { SomeRunIsRight }
 {}
