@@ -1,5 +1,5 @@
 -- What was sent, released and told, as a world has it. No public contract cites it.
-use Rattle.std.specs.Prelude.{◌≡◌, ℕ, ◌≤◌, List, [], ◌++◌, length, map, All, option_to_list}
+use Rattle.std.specs.Prelude.{◌≡◌, ℕ, ◌≤◌, List, [], ◌++◌, length, map, All, None, option_to_list}
 use Rattle.std.specs.List.{flat_map}
 use Rattle.std.specs.Option.{option_map, option_map_or}
 use Rattle.rl_base.specs.declared.limit.TheConstants.{BYTES}
@@ -41,6 +41,13 @@ pub record HasTaken (old new : Told) (number node : ℕ) (out : Out) : Type 0 wh
   pub count : new.sent ≡ length new.net
   pub released : new.released ≡ old.released ++ unreleased old.released out.released
   pub lines : new.lines ≡ old.lines ++ lines_told number node out
+
+-- a node handed out nothing
+pub record IsQuiet (out : Out) : Type 0 where
+  pub sends : out.sends ≡ []
+  pub released : out.released ≡ []
+  pub denied : out.denied ≡ None
+  pub opened : out.opened ≡ None
 
 -- ---- what the world has ----
 

@@ -1,6 +1,6 @@
 //! What was sent, released and told.
 
-ghost use Rattle.std.specs.Prelude.{◌≡◌, ℕ, ◌<◌, ◌≤◌, ◌⊎◌, [], ◌∷◌, ◌++◌, length, map, option_to_list, None, IsSome, OnOk, IfErr};
+ghost use Rattle.std.specs.Prelude.{◌≡◌, ℕ, ◌<◌, ◌≤◌, ◌⊎◌, [], ◌∷◌, ◌++◌, length, map, option_to_list, None, IsSome, IsTrue, OnOk, IfErr};
 ghost use Rattle.std.specs.Option.{option_map, option_map_or};
 ghost use Rattle.rl_base.specs.declared.limit.TheConstants.{BYTES};
 ghost use Rattle.rl_net.specs.Messages.{bytes_sent, message_at, dropped_at};
@@ -8,7 +8,7 @@ ghost use Rattle.rl_world.specs.Finishing.{HasFinished, HasNotFinished};
 ghost use Rattle.rl_world.specs.Refusing.{IsByBytes};
 ghost use Rattle.rl_world.specs.Reported.{denied_lines};
 ghost use Rattle.rl_world.specs.Stepping.{HasTakenStep};
-ghost use Rattle.rl_world.specs.Telling.{message_of, opened_middle, HasTaken};
+ghost use Rattle.rl_world.specs.Telling.{message_of, opened_middle, HasTaken, IsQuiet};
 
 use crate::lines::push_denied;
 use crate::releases::release;
@@ -96,6 +96,9 @@ impl Told {
         ensures few { bytes_sent self.new.net ≤ BYTES }
         ensures count { self.new.sent ≡ length self.new.net }
     {
+        if is_quiet(&out) {
+            return Ok(());
+        }
         let Out {
             sends,
             opened,
@@ -174,4 +177,11 @@ impl Told {
         }
         Ok(())
     }
+}
+
+/// Whether a node hands out nothing.
+fn is_quiet(out: &Out) -> bool
+    ensures { IsTrue result → IsQuiet out.now }
+{
+    out.sends.is_empty() && out.released.is_empty() && out.denied.is_none() && out.opened.is_none()
 }
