@@ -1,5 +1,5 @@
 -- A family with one more batch, and going over its logs.
-use Rattle.std.proofs.Common.{◌≡◌, ℕ, suc, zero, ◌+◌, ◌-◌, ◌<◌, ◌≤◌, List, [], ◌∷◌, ◌++◌, length, get_or, take, drop, replicate, Bool, true, false, ◌&&◌, All, refl, sym, ap, ◌∙◌, subst, arith, inl, inr, true≢false, length-append, drop-cons, cond, ◌==◌, nat_lt, nat_le}
+use Rattle.std.proofs.Common.{◌≡◌, ℕ, suc, zero, ◌+◌, ◌-◌, ◌<◌, ◌≤◌, List, [], ◌∷◌, ◌++◌, length, get_or, take, drop, replicate, Bool, true, false, ◌&&◌, ◌||◌, All, refl, sym, ap, ◌∙◌, subst, arith, inl, inr, true≢false, length-append, drop-cons, cond, ◌==◌, nat_lt, nat_le}
 use Rattle.std.specs.Prelude.{not, slice_set}
 use Rattle.std.specs.List.{filter, flat_map}
 use Rattle.std.specs.Option.{option_map_or}
@@ -14,7 +14,7 @@ use Rattle.rl_base.proofs.OrderLemmas.{is_below_from, below_one_way}
 use Rattle.rl_txn.specs.declared.item.Item.{Item}
 use Rattle.rl_txn.specs.declared.batch.Batch.{Batch}
 use Rattle.rl_families.specs.Order.{in_order, IsInOrder}
-use Rattle.rl_families.specs.Logs.{stamps_in_batch, stamps_along, items_along, IsRising, first_stamp, last_stamp}
+use Rattle.rl_families.specs.Logs.{stamps_in_batch, stamps_along, items_along, IsRising, first_stamp, last_stamp, last_seq_among}
 use Rattle.rl_families.specs.Families.{least_top, all_reached, watermark, is_counted, bound_of, history, IsInside, AllRise}
 use Rattle.rl_families.specs.Laws.{is_up_to_watermark}
 use Rattle.rl_base.proofs.Members.{In, contains_in, all_in}
@@ -245,6 +245,28 @@ module _ (logs : List (List Batch)) (reached : List (List Stamp)) (settled more 
     mark = n ∙ mark_is logs reached g.fits.streams g.fits.reached;
     history = h ∙ history_now;
   }
+
+-- two pairs of numbers that compare as equal
+pub same_pair : (m n : ℕ × ℕ) → ((m.0 == n.0) && (m.1 == n.1)) ≡ true → m ≡ n
+same_pair m n h = grind (arith, nat_tests)
+
+-- where the watermark is still the same, nothing counts anew
+pub keeps_same : (logs : List (List Batch)) (reached : List (List Stamp)) (settled : List Stamp) (counted : List ℕ) (mark : ℕ × ℕ) (items : List Item) → HasGrown logs reached settled counted mark items → mark ≡ mark_of reached
+    → Keeps logs reached settled counted mark items
+keeps_same logs reached settled counted mark items g n =
+    keeps_now logs reached settled settled counted mark mark items g n g.fits.settled counted items refl g.fits.counted
+    (sym (ap (λ z. items ++ in_order z) none ∙ append-nil items))
+  where
+    go : (a b c : Bool) → ((a && not b) && (b && c)) ≡ false
+    go true true c = refl
+    go true false c = refl
+    go false b c = refl
+
+    never : (s : Stamp) → counts_now mark mark settled s ≡ false
+    never s = go (nat_lt 0 s.epoch) (is_up_to_watermark mark s) ((s.epoch == mark.0) || nat_le s.seq (last_seq_among settled s.epoch))
+
+    none : filter (λ x. counts_now mark mark settled x.stamp) (flat_map items_along logs) ≡ []
+    none = filter_none (λ x. counts_now mark mark settled x.stamp) (flat_map items_along logs) (λ x i. never x.stamp)
 
 pub now_grown : (logs : List (List Batch)) (reached : List (List Stamp)) (settled : List Stamp) (counted : List ℕ) (mark now : ℕ × ℕ) (items : List Item) → HasGrown logs reached settled counted mark items → now ≡ mark_of reached
     → (i : ℕ) → AreUpTo now (get_or logs i []) (get_or counted i 0)

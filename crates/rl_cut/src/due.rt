@@ -27,8 +27,8 @@ pub struct Marks {
     pub now: (u32, u64),
 }
 
-/// Counts what counts now that the logs have grown. After `Memory` nothing has changed, but that
-/// bounds may stand behind those that were settled.
+/// Counts what counts now that the logs have grown: nothing where the watermark is the same. After
+/// `Memory` nothing has changed, but that bounds may stand behind those that were settled.
 pub fn count(
     alloc: Global,
     logs: &[Batches],
@@ -46,6 +46,9 @@ pub fn count(
     ensures history { OnErr result (history.new ≡ history.old) }
 {
     let now = mark_of(reached);
+    if now == *mark {
+        return Ok(());
+    }
     let marks = Marks { before: *mark, now };
     settle(reached, marks.before.0, now.0, settled)?;
     let due = in_order_due(alloc, logs, settled, counted, marks)?;
