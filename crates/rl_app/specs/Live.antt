@@ -1,27 +1,12 @@
 -- What the command `live` answers.
-use Rattle.std.specs.Prelude.{◌≡◌, ◌==◌, ℕ, ◌+◌, ◌*◌, ◌≤◌, List, [], length, codes, All, Option, None, IsSomeAnd, if◌then◌else◌}
+use Rattle.std.specs.Prelude.{◌≡◌, ◌==◌, ℕ, ◌+◌, ◌*◌, ◌≤◌, List, length, codes, All, Option, None, IsSomeAnd, if◌then◌else◌}
 use Rattle.rl_base.specs.declared.limit.TheConstants.{SCRIPT, SLOTS}
 use Rattle.rl_check.specs.Right.{IsRight}
-use Rattle.rl_live.specs.Run.{RunOk}
+use Rattle.rl_live.specs.Run.{RunOk, without_stops}
 use Rattle.rl_live.specs.declared.run.LiveRun.{LiveRun}
 use Rattle.rl_script.specs.declared.script.Script.{Script}
 use Rattle.rl_app.specs.Answers.{AnswersScript}
 use Rattle.rl_app.specs.Serve.{Serves, Side, limit_line}
-
--- a script without its lines `stop`, which a run of threads passes over
-abbrev pub without_stops : Script → Script
-without_stops script = record {
-  schema = script.schema;
-  rows = script.rows;
-  nodes = script.nodes;
-  workers = script.workers;
-  batch = script.batch;
-  loss = script.loss;
-  seed = script.seed;
-  stops = [];
-  lists = script.lists;
-  events = script.events;
-}
 
 -- in each epoch that a script speaks of, a stream has room for two marks and a batch for each request of the longest list
 abbrev pub HasRoom : Script → Type 0
@@ -29,7 +14,7 @@ HasRoom script = All (λ list. (length list + 2) * (length script.stops + 1) ≤
 
 -- a run of threads of all requests of a script, and the right report of it
 pub record IsLiveReport (script : Script) (run : LiveRun) (text : List ℕ) : Type 0 where
-  pub ok : RunOk script run
+  pub ok : RunOk (without_stops script) run
   pub right : IsRight (without_stops script) text run.items
 
 -- the answer to a script: the report of the run that was made of it, or the limit that its longest list passes

@@ -8,7 +8,7 @@ ghost use Rattle.rl_txn.specs.Serial.{rows_after};
 ghost use Rattle.rl_report.specs.Printed.{printed};
 ghost use Rattle.rl_report.specs.Lines.{row_lines};
 ghost use Rattle.rl_check.specs.Right.{live_report, node_after};
-ghost use Rattle.rl_live.specs.Run.{RunOk};
+ghost use Rattle.rl_live.specs.Run.{RunOk, without_stops};
 ghost use Rattle.rl_script.specs.Fits.{ScriptFits};
 ghost use Rattle.rl_app.specs.Answers.{AnswersScript};
 ghost use Rattle.rl_app.specs.Live.{AnswersLive, HasRoom, ServesLive};

@@ -30,7 +30,7 @@ use Rattle.rl_live.specs.Elections.{HasLogs, HaveSameLogs, led_with, with_mark}
 use Rattle.rl_live.specs.Ended.{HaveEnded, HasServed, WholeLogs, together}
 use Rattle.rl_live.specs.Handing.{CanFinish, HasFinished, HasRun, IsFreshAfter, IsJoined, IsLive}
 use Rattle.rl_live.specs.Reading.{KeepsRead}
-use Rattle.rl_live.specs.Run.{acceptor_at, IsLogOf, IsNodeWith, IsServed, RunOk}
+use Rattle.rl_live.specs.Run.{acceptor_at, IsLogOf, IsNodeWith, IsServed, RunOk, without_stops}
 use Rattle.rl_live.proofs.Ending.{as_long, served}
 use Rattle.rl_live.proofs.Firsts.{map_long}
 use Rattle.rl_live.proofs.Hands.{copies_long}
@@ -153,13 +153,15 @@ module _ (script : Script) (store : StoreOf) (total : ℕ) (pass : PassOf) (rows
       go (n ∷ ns) (suc m) q a zero d l = record { acceptors = (let x = q in cc); rows_are = a 0 n (omega arith) }
       go (n ∷ ns) (suc m) q a (suc k) d l = go ns m (let x = q in cc) (λ j b i. a (suc j) b (omega arith)) k d (omega arith)
 
-  pub run_ok : (closedof : ClosedOf) (run : LiveRun) → closedof.epoch ≡ store.made.epoch → closedof.words ≡ words → closedof.rows ≡ closed
-      → ((r : ℕ) → r < sum (sizes_of script.schema) → stamp_at store.made.words r ≡ 0) → HasFinished script h.family rows closedof run → RunOk script run
-  run_ok closedof run dated words_are rows_are unwritten f =
+  pub run_ok : (closedof : ClosedOf) (run : LiveRun) → store.made.epoch ≡ 1 → closedof.epoch ≡ store.made.epoch → closedof.words ≡ words → closedof.rows ≡ closed
+      → length words ≡ length store.made.columns → length closed ≡ length store.made.columns
+      → ((r : ℕ) → r < sum (sizes_of script.schema) → stamp_at store.made.words r ≡ 0) → HasFinished script h.family rows closedof run → RunOk (without_stops script) run
+  run_ok closedof run first dated words_are rows_are many_words many_rows unwritten f =
       let items = f.items_are in
       record {
         epoch = store.made.epoch;
         begun = begun;
+        few = omega arith;
         logs = h.logs;
         family = h.family;
         streams = streams;
@@ -170,6 +172,8 @@ module _ (script : Script) (store : StoreOf) (total : ℕ) (pass : PassOf) (rows
         each_node = subst (λ l. All (IsNodeWith store.made.epoch h.logs (rows_after script.rows l)) run.nodes) (sym items) (each_node rows run.nodes h.family (f.acceptors_are ∙ h.rows_are) f.maps);
         closed_epoch = ap (λ (x : ClosedOf). x.epoch) f.closed_is ∙ dated;
         closed = record {
+          many_words = ap (λ (x : ClosedOf). length x.words) f.closed_is ∙ (ap length words_are ∙ (many_words ∙ opens.records.records));
+          many_rows = ap (λ (x : ClosedOf). length x.rows) f.closed_is ∙ (ap length rows_are ∙ (many_rows ∙ opens.records.records));
           words = λ r l.
               ap (λ (x : ClosedOf). 2 * (slice_index x.words r / 2)) f.closed_is ∙ (ap (λ w. 2 * (slice_index w r / 2)) words_are
               ∙ (ap (λ n. 2 * n) (has_served.store.stamp r l ∙ ap (λ n. last_stamp (sizes_of script.schema) r n (history h.family)) (unwritten r l))

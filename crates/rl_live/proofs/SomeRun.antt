@@ -145,12 +145,13 @@ rows_closed zero l = sym (finite.get-insert places_total script.rows (0, 0) (5 �
 rows_closed (suc r) l = absurd (omega arith)
 
 is_closed : IsClosedAfter script.schema script.rows run.items run.closed
-is_closed = record { words = words_after; rows_are = rows_closed }
+is_closed = record { many_words = refl; many_rows = refl; words = words_after; rows_are = rows_closed }
 
 pub right : RunOk script run
 right = record {
   epoch = 1;
   begun = omega arith;
+  few = omega arith;
   logs = kept ∷ [];
   family = log ∷ [];
   streams = refl;

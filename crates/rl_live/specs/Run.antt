@@ -1,5 +1,5 @@
 -- What a session of a script gives back: what its nodes keep, its items, and its store as it was closed.
-use Rattle.std.specs.Prelude.{◌≡◌, ℕ, ◌-◌, ◌*◌, ◌^◌, ◌<◌, ◌≤◌, List, [], ◌∷◌, ◌++◌, length, map, sum, slice_index, slice_index_or, None, Ok, All, Contains}
+use Rattle.std.specs.Prelude.{◌≡◌, ℕ, ◌+◌, ◌-◌, ◌*◌, ◌^◌, ◌<◌, ◌≤◌, List, [], ◌∷◌, ◌++◌, length, map, sum, slice_index, slice_index_or, None, Ok, All, Contains}
 use Rattle.std.specs.List.{AllZip}
 use Rattle.std.specs.FinMap as finite
 use Rattle.rl_base.specs.Words.{without_lock}
@@ -54,18 +54,37 @@ pub record IsNodeWith (epoch : ℕ) (logs : List bytes.Log) (rows : Rows) (node 
   pub acceptors : node.acceptors ≡ map (acceptor_at epoch) logs
   pub rows_are : node.map ≡ rows
 
--- a store that was closed after some items: the word of each record, without its lock bit, is twice the stamp of the last
--- item that writes it, or 0, and its row is the one after the items
+-- a script without its lines `stop`, which a run of threads passes over
+abbrev pub without_stops : Script → Script
+without_stops script = record {
+  schema = script.schema;
+  rows = script.rows;
+  nodes = script.nodes;
+  workers = script.workers;
+  batch = script.batch;
+  loss = script.loss;
+  seed = script.seed;
+  stops = [];
+  lists = script.lists;
+  events = script.events;
+}
+
+-- a store that was closed after some items, with a word and a row for each record: the word, without its lock bit, is twice
+-- the stamp of the last item that writes the record, or 0, and the row is the one after the items
 pub record IsClosedAfter (tables : List Table) (rows : Rows) (items : List Item) (closed : ClosedOf) : Type 0 where
+  pub many_words : length closed.words ≡ sum (sizes_of tables)
+  pub many_rows : length closed.rows ≡ sum (sizes_of tables)
   pub words : (r : ℕ) → r < sum (sizes_of tables)
       → without_lock (slice_index closed.words r) ≡ 2 * last_stamp (sizes_of tables) r 0 items
   pub rows_are : (r : ℕ) → r < sum (sizes_of tables)
       → slice_index_or closed.rows r None ≡ finite.get (rows_after rows items) (place_of (sizes_of tables) r)
 
--- what a run of a script gives back: the last leader's epoch, and each stream's log, as bytes and as what they are read as
+-- what a run of a script gives back: the last leader's epoch, which is at most one above the number of stops, and each
+-- stream's log, as bytes and as what they are read as
 pub record RunOk (script : Script) (run : LiveRun) : Type 0 where
   pub epoch : ℕ
   pub begun : 1 ≤ epoch
+  pub few : epoch ≤ length script.stops + 1
   pub logs : List bytes.Log
   pub family : List (List Batch)
   pub streams : length family ≡ script.workers

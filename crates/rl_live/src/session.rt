@@ -9,7 +9,7 @@ ghost use Rattle.rl_txn.specs.declared.batch.Batch.{Batch};
 ghost use Rattle.rl_live.specs.declared.open.TheConstants.{TRIES};
 ghost use Rattle.rl_live.specs.Elections.{led_with, with_mark};
 ghost use Rattle.rl_live.specs.Handing.{AllFrom, CanFinish, HasFinished, HasRun, IsEndAs, IsLive, IsReadyAs, IsStage};
-ghost use Rattle.rl_live.specs.Run.{IsCommitStamp, IsServed, RunOk};
+ghost use Rattle.rl_live.specs.Run.{IsCommitStamp, IsServed, RunOk, without_stops};
 ghost use Rattle.rl_live.specs.Workers.{IsSetUp, HasDone};
 
 use crate::election::{Led, elect};
@@ -47,7 +47,7 @@ pub fn session<R: Threads + Wait + Sync, G: Gate>(
     gate: &G,
 ) -> Result<LiveRun, Memory>
     requires { IsLive script.now }
-    ensures run { IfOk result (λ run. RunOk script.now run) }
+    ensures run { IfOk result (λ run. RunOk (without_stops script.now) run) }
     ensures served { IfOk result (λ run. IsServed script.now run.items) }
     ensures stamps { IfOk result (λ run. All (λ item. IsCommitStamp 1 item.stamp) run.items) }
 {

@@ -28,7 +28,7 @@ returns-clause-run g c =
     let can = can_finish c.args.script.now store TRIES c.in_ok-pass.pass c.in_ok-pass.nodes c.requires begun few c.in_ok-store.ensures.opens h closed.words closed.rows ends in
     ok_two c.finish.result _ _ _ c.finish.ensures c.finish.ensures (λ run f i.
     run_ok c.args.script.now store TRIES c.in_ok-pass.pass c.in_ok-pass.nodes c.requires begun few c.in_ok-store.ensures.opens h closed.words closed.rows ends
-    closed run c.in-Ok.ensures.epoch refl refl c.in_ok-store.ensures.zero (f store.made.epoch h.logs h.family can))
+    closed run dated c.in-Ok.ensures.epoch refl refl c.in-Ok.ensures.words c.in-Ok.ensures.rows c.in_ok-store.ensures.zero (f store.made.epoch h.logs h.family can))
 
 pub returns-clause-served : goal.returns-clause-served
 returns-clause-served g c =
