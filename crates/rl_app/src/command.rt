@@ -47,7 +47,7 @@ pub enum Form {
     GenRun(Sizes),
 }
 
-/// Does all that the program does. The one word `serial`, `steps`, `sim` or `check` is the command of this
+/// Does all that the program does. The one word `serial`, `steps`, `sim`, `live` or `check` is the command of this
 /// name, and `gen script` or `gen run` with `SEED NODES WORKERS REQUESTS` behind it is another; all other
 /// words are status 2.
 ///
@@ -63,6 +63,11 @@ pub enum Form {
 /// of one serial history; each replica at its watermark holds exactly a prefix of it; each leader opens
 /// with everything that leaders of earlier epochs release; and a commit is refused only where a record
 /// that it had observed changed or one that it needed was locked by another worker.
+///
+/// What `live` reports is a run of all requests of the script without its lines `stop`: its items are one
+/// serial history with each list in its order, and each node has the rows after them. `live` alone starts
+/// threads and tells the gate of its workers' points; it may never return, where the gate holds a worker or
+/// messages never arrive.
 pub fn rolis<R: Threads + Wait + Sync, S: Source, K: Sink, G: Gate>(
     rt: &R,
     alloc: Global,

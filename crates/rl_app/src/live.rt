@@ -41,7 +41,7 @@ use std::thread::Threads;
 
 /// Reads a script, runs all its requests by one thread for each worker, and writes the report: the
 /// items of all workers in the order of their stamps, and the rows of each node. Events and lines
-/// `stop` are passed over. The gate is told of each point that a worker comes to, and may hold it.
+/// `stop` are passed over: the run is that of the script without them. The gate is told of each point that a worker comes to, and may hold it.
 ///
 /// What was decided is serial: one thread could have run all requests in the order of the items, each
 /// list in its order; each node's rows are those after the items. The run itself is given back

@@ -29,7 +29,10 @@ pub struct Led {
 
 /// Makes a leader of an epoch: every node promises it, each stream's log is recovered, and with the
 /// epoch's open mark behind it every node adopts it and acks it. The acceptors of a node stand in
-/// the order of the streams. All nodes keep the same logs before.
+/// the order of the streams. All nodes keep the same logs before. The call may never return, where
+/// messages never arrive.
+///
+/// `Memory`: nothing is left of the nodes.
 pub fn elect<R: Wait>(
     rt: &R,
     alloc: Global,

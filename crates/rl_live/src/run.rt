@@ -6,7 +6,8 @@ use rl_store::close::Closed;
 use rl_txn::item::Items;
 use rl_value::map::Map;
 
-/// Acceptors of one stream each.
+/// Acceptors of one stream each: of a node one for each worker's stream, in the order of the workers;
+/// of a stream one for each node, in the order of the nodes.
 pub type Acceptors = Seq<Acceptor>;
 
 /// A node at the end of a run: the acceptor of each worker's stream, and its tables.

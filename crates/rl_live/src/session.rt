@@ -36,10 +36,13 @@ use std::sync::Wait;
 use std::thread;
 use std::thread::Threads;
 
-/// Runs a script's requests, each list by a worker in a thread of its own, under the leader of
-/// epoch 1. It may never return where messages never arrive.
+/// Runs all requests of a script, each list by a worker in a thread of its own, under the leader of
+/// epoch 1. Lines `stop` are passed over: the run is one of the script without them. The gate is
+/// told of each point that a worker comes to, and may hold it. The call may never return: where a
+/// gate holds a worker, or where messages never arrive.
 ///
-/// `Memory`: nothing is left of the session.
+/// `Memory`: there was too little, at the start or in a worker's thread; nothing is left of the
+/// session.
 pub fn session<R: Threads + Wait + Sync, G: Gate>(
     rt: &R,
     alloc: Global,

@@ -10,7 +10,7 @@ use rl_txn::op::Lists;
 /// A worker, before it has done anything.
 #[derive(Drop)]
 pub struct Worker<'a> {
-    /// Its number, from 1: its stream has the same.
+    /// Its number, from 1 to the number of lists: its stream has the same.
     pub number: u32,
     /// The requests of all workers: the list of its number is its own.
     pub lists: &'a Lists,
