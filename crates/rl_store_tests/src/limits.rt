@@ -39,7 +39,10 @@ fn a_commit_above_its_limit_keeps_its_locks_until_rest(rt: HostRuntime) -> Resul
     let txn = transfer(alloc, &schema, 0, 1, 3)?;
     let attempt = locked(alloc, &store, &layout, &schema, &txn, pass)?;
     let (halt, result) = attempt.commit_below(1);
-    let Err(CommitError::Above { seq }) = result else {
+    let Err(error) = result else {
+        return Err("it was decided".into());
+    };
+    let CommitError::Above { seq } = error else {
         return Err("the seq wasn't above".into());
     };
     let Halt::Held(halted) = halt else {
