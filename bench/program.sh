@@ -22,9 +22,9 @@ build_program() {
     run rt lib
   done
   for crate in "$top"/crates/*; do
-    mkdir -p "$copy/crates/${crate##*/}"
-    for part in src specs proofs; do
-      [ ! -d "$crate/$part" ] || cp -r "$crate/$part" "$copy/crates/${crate##*/}/"
+    mkdir -p "$copy/crates/${crate##*/}/out"
+    for part in src specs proofs out/rlib; do
+      [ ! -d "$crate/$part" ] || cp -r "$crate/$part" "$copy/crates/${crate##*/}/${part%rlib}"
     done
   done
   mkdir -p "$copy/crates/$program/src"
