@@ -88,7 +88,8 @@ nodes_on() {
     told=$(head -n 1 "$work/told")
     case $told in
       before | after | same | down | elsewhere | whole*) ;;
-      '') told="none (status $ended: $(head -c 60 "$work/said" | head -n 1))" ;;
+      # memory was refused where the script is read
+      '') told="no line, status $ended" ;;
       *)
         bad=$((bad + 1))
         echo "request $which: $told"
